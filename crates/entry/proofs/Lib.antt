@@ -1,0 +1,2 @@
+pub mod FloatReading
+pub mod ZeroBytes

@@ -1,0 +1,11 @@
+pub mod Sym
+pub mod Sides
+pub mod Circles
+pub mod Forms
+pub mod Places
+pub mod Terms
+pub mod Signs
+pub mod Bounds
+pub mod Convex
+pub mod Worked
+pub mod Floats
