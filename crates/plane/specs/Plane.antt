@@ -1,5 +1,7 @@
 -- Points of the plane, the side of a line and the inside of a circle.
-use lib.IntN.{ℤ, _+ℤ_, _-ℤ_, _*ℤ_}
+use mathlib.Core.Bool.{Bool, _&&_}
+use lib.Signed.{leZ}
+use lib.IntN.{ℤ, pos, _+ℤ_, _-ℤ_, _*ℤ_}
 
 -- a point, by its coordinates
 pub record Pt : Type 0 where
@@ -36,3 +38,7 @@ far a b = sq (a .x -ℤ b .x) (a .y -ℤ b .y)
 -- the scalar product of a - o and b - o: negative where o, on the line of a and b, lies strictly between them
 unfoldable pub dot : Pt → Pt → Pt → ℤ
 dot o a b = (a .x -ℤ o .x) *ℤ (b .x -ℤ o .x) +ℤ (a .y -ℤ o .y) *ℤ (b .y -ℤ o .y)
+
+-- q is on the line of a and b and not outside the circle on that diameter: it lies on the segment from a to b, ends included
+abbrev pub onSegment : Pt → Pt → Pt → Bool
+onSegment a b q = leZ (S a b q) (pos 0) && leZ (pos 0) (S a b q) && leZ (dot q a b) (pos 0)

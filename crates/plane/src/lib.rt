@@ -9,6 +9,7 @@ pub use line_side_info::LineSideInfo;
 pub use line_side_info::LineSideInfoPartialEq;
 pub use math::contained_in_circumference;
 pub use math::incircle;
+pub use math::is_on_segment;
 pub use math::is_ordered_ccw;
 pub use math::side;
 pub use math::side_query;

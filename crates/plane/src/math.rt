@@ -3,13 +3,12 @@ ghost use mathlib.Core.Path.{_≡_};
 ghost use Prim.Native.Nat.{_≤_, _<_, _^_};
 ghost use lib.IntN.{pos, natAbs};
 ghost use lib.Signed.{ltZ, leZ};
-ghost use Rattle.plane.specs.Plane.{S, C};
+ghost use Rattle.plane.specs.Plane.{S, C, dot, onSegment};
 ghost use Rattle.plane.specs.Spot.{«at», spot};
 ghost use Rattle.plane.specs.Holds.{Holds};
 use crate::line_side_info::LineSideInfo;
 use crate::place::Place;
 
-// `side`, by coordinates.
 fn side_at(ax: u16, ay: u16, bx: u16, by: u16, qx: u16, qy: u16) -> i64
     requires a { ⌜ ax ≤ 16383 ⌝ ∗ ⌜ ay ≤ 16383 ⌝ }
     requires b { ⌜ bx ≤ 16383 ⌝ ∗ ⌜ by ≤ 16383 ⌝ }
@@ -24,7 +23,6 @@ fn side_at(ax: u16, ay: u16, bx: u16, by: u16, qx: u16, qy: u16) -> i64
     ux * wy - uy * wx
 }
 
-// `incircle`, by coordinates.
 fn incircle_at(ax: u16, ay: u16, bx: u16, by: u16, cx: u16, cy: u16, dx: u16, dy: u16) -> i64
     requires a { ⌜ ax ≤ 16383 ⌝ ∗ ⌜ ay ≤ 16383 ⌝ }
     requires b { ⌜ bx ≤ 16383 ⌝ ∗ ⌜ by ≤ 16383 ⌝ }
@@ -43,6 +41,19 @@ fn incircle_at(ax: u16, ay: u16, bx: u16, by: u16, cx: u16, cy: u16, dx: u16, dy
     let ry = cy as i64 - dy as i64;
     let rz = rx * rx + ry * ry;
     px * (qy * rz - qz * ry) - py * (qx * rz - qz * rx) + pz * (qx * ry - qy * rx)
+}
+
+fn dot_at(ox: u16, oy: u16, ax: u16, ay: u16, bx: u16, by: u16) -> i64
+    requires o { ⌜ ox ≤ 16383 ⌝ ∗ ⌜ oy ≤ 16383 ⌝ }
+    requires a { ⌜ ax ≤ 16383 ⌝ ∗ ⌜ ay ≤ 16383 ⌝ }
+    requires b { ⌜ bx ≤ 16383 ⌝ ∗ ⌜ by ≤ 16383 ⌝ }
+    ensures { λ r. ⌜ r ≡ dot («at» ox oy) («at» ax ay) («at» bx by) ⌝ }
+{
+    let ux = ax as i64 - ox as i64;
+    let uy = ay as i64 - oy as i64;
+    let wx = bx as i64 - ox as i64;
+    let wy = by as i64 - oy as i64;
+    ux * wx + uy * wy
 }
 
 // Twice the area of the triangle a, b, q: positive where q is left of the way from a to b, 0 where it is on the line.
@@ -81,4 +92,12 @@ pub fn contained_in_circumference(a: Place, b: Place, c: Place, d: Place) -> boo
     ensures { λ r. ⌜ r ≡ ltZ (pos 0) (C (spot a) (spot b) (spot c) (spot d)) ⌝ }
 {
     incircle(a, b, c, d) > 0
+}
+
+// Whether q lies on the segment from a to b, ends included.
+pub fn is_on_segment(a: Place, b: Place, q: Place) -> bool
+    ensures { λ r. ⌜ r ≡ onSegment (spot a) (spot b) (spot q) ⌝ }
+{
+    let s = side(a, b, q);
+    s <= 0 && s >= 0 && dot_at(q.x(), q.y(), a.x(), a.y(), b.x(), b.y()) <= 0
 }

@@ -15,6 +15,9 @@ pub struct Place {
 }
 
 impl Place {
+    // The lowest corner of the pad.
+    pub const ORIGIN: Place = Place { x: 0, y: 0 };
+
     // The place at x and y; None where one of them is past 16383.
     pub fn new(x: u16, y: u16) -> Option<Place>
         ensures accepted { λ r. ⌜ isSome r ≡ (leb x 16383 && leb y 16383) ⌝ }

@@ -1,0 +1,4 @@
+use Rattle.links.proofs.rules.try_along.Needs as need
+
+pub returns : need.returns
+returns c = c .try-rings .ensures

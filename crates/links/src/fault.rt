@@ -1,0 +1,75 @@
+//! What a check answers of a draft that is not sound.
+ghost use mathlib.Core.Path.{_≡_};
+ghost use Rattle.links.specs.Verdict.{pairOf, siteOf};
+use entry::EntryFault;
+
+/// The records at which a clause fails.
+#[derive(Clone, Copy)]
+pub enum Site {
+    /// The clause is about no record.
+    Whole,
+    Entry(u32),
+    Half(u32),
+    Edge(u32),
+    Face(u32),
+    /// An entry without a place, and why it has none.
+    Unplaced(u32, EntryFault),
+    Edges(u32, u32),
+    EdgeEntry(u32, u32),
+    HalfEntry(u32, u32),
+    FaceEntry(u32, u32),
+}
+
+/// The first clause that fails, at the lowest record.
+#[derive(Clone, Copy)]
+pub struct CheckFault {
+    pub rule: u8,
+    pub clause: u8,
+    pub site: Site,
+}
+
+/// The kinds of record.
+#[derive(Clone, Copy)]
+pub enum Kind {
+    Entry,
+    Half,
+    Edge,
+    Face,
+}
+
+impl Kind {
+    /// The record of this kind and number.
+    pub fn site(self, i: u32) -> Site
+        ensures { λ r. ⌜ r ≡ siteOf self i ⌝ }
+    {
+        match self {
+            Kind::Entry => Site::Entry(i),
+            Kind::Half => Site::Half(i),
+            Kind::Edge => Site::Edge(i),
+            Kind::Face => Site::Face(i),
+        }
+    }
+}
+
+/// The kinds of pairs of records.
+#[derive(Clone, Copy)]
+pub enum Pair {
+    EdgeEdge,
+    EdgeEntry,
+    HalfEntry,
+    FaceEntry,
+}
+
+impl Pair {
+    /// The records of these numbers.
+    pub fn site(self, i: u32, j: u32) -> Site
+        ensures { λ r. ⌜ r ≡ pairOf self i j ⌝ }
+    {
+        match self {
+            Pair::EdgeEdge => Site::Edges(i, j),
+            Pair::EdgeEntry => Site::EdgeEntry(i, j),
+            Pair::HalfEntry => Site::HalfEntry(i, j),
+            Pair::FaceEntry => Site::FaceEntry(i, j),
+        }
+    }
+}
