@@ -1,6 +1,8 @@
 pub mod Decide
 pub mod First
+pub mod Copying
 pub mod Cycles
+pub mod Settling
 pub mod Sights
 pub mod Spots
 pub mod Walks

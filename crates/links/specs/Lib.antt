@@ -4,5 +4,6 @@ pub mod Tests
 pub mod Tables
 pub mod Rings
 pub mod Verdict
-pub mod Shelf
 pub mod Law
+pub mod Kept
+pub mod Shelf

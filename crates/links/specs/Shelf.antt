@@ -12,7 +12,9 @@ use Rattle.entry.specs.declared.fault.Cause.{Cause}
 use Rattle.entry.specs.declared.fault.EntryFault.{EntryFault}
 use Rattle.links.specs.declared.fault.CheckFault.{CheckFault}
 use Rattle.links.specs.declared.shape.Shape.{Shape}
+use Rattle.links.specs.Law.{Roomy, Every-place}
 use Rattle.links.specs.Links.{Links}
+use Rattle.links.specs.Rules.{Sound}
 use Rattle.links.specs.Verdict.{judged, verdict, xOf, yOf}
 
 -- a kind of entry, by how its scalars read
@@ -34,3 +36,7 @@ module _ {E Sc : Type 0} (reading : Sc → Result ℕ Cause) (across along : E �
   -- what check answers of a draft and a shelf with a count beside it: a count above the shelf's length is read as that length
   abbrev pub answer : List ℕ → Shape → List E → ℕ → Option CheckFault
   answer w s es count = verdict w s (min count (length es)) (spotAt (take (s .n) es))
+
+  -- a draft fits a shelf: there is room, every entry has a place, and links and places are sound
+  abbrev pub Fits-shelf : List ℕ → Shape → List E → ℕ → Type 0
+  Fits-shelf w s es count = Roomy w s (min count (length es)) × Every-place (s .n) (spotAt (take (s .n) es)) × Sound (seen w s (take (s .n) es))

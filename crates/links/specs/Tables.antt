@@ -1,7 +1,7 @@
 -- The reading of a slice of numbers as links: three numbers an entry (x, y, out_edge), eight an edge (next, prev, face, origin
 -- of its normalized half and then of the other), one a face, in this order. What lies past its table reads none.
 use mathlib.Core.List.{List}
-use mathlib.Core.Bool.{Bool, true, false, cond}
+use mathlib.Core.Bool.{Bool, true, false, cond, _&&_}
 use Prim.Native.Nat.{ℕ, _+_, _*_}
 use lib.Dec.{ltb}
 use lib.ListN.{length, getD}
@@ -25,6 +25,10 @@ size s = 3 * s .entries + 8 * s .edges + s .faces
 abbrev pub cell : Bool → List ℕ → ℕ → ℕ
 cell true w i = getD w i 0
 cell false w i = none
+
+-- the number at i, if it belongs to its table and lies in the slice
+abbrev pub looked : List ℕ → Bool → ℕ → ℕ
+looked w b i = cond (b && ltb i (length w)) (getD w i 0) none
 
 module _ (w : List ℕ) (s : Shape) where
   abbrev pub ofEntry : ℕ → ℕ → ℕ
@@ -52,6 +56,10 @@ module _ (w : List ℕ) (s : Shape) where
     origin = ofHalf 3;
   }
 
+  -- a coordinate of entry v; past the count 0
+  abbrev pub coordinate : ℕ → ℕ → ℕ
+  coordinate field v = cond (ltb v (s .n)) (ofEntry field v) 0
+
   -- the links and the places of the tables
   abbrev pub held : Links
-  held = linked (ofEntry 0) (ofEntry 1)
+  held = linked (coordinate 0) (coordinate 1)

@@ -2,6 +2,8 @@
 ghost use mathlib.Core.Path.{_≡_};
 ghost use Rattle.links.specs.Verdict.{pairOf, siteOf};
 use entry::EntryFault;
+use entry::EntryFaultDisplay;
+use std::fmt;
 
 /// The records at which a clause fails.
 #[derive(Clone, Copy)]
@@ -71,5 +73,31 @@ impl Pair {
             Pair::HalfEntry => Site::HalfEntry(i, j),
             Pair::FaceEntry => Site::FaceEntry(i, j),
         }
+    }
+}
+
+pub impl fmt::Display for Site as SiteDisplay {
+    fn fmt<W: fmt::Write>(&self, f: &mut fmt::Formatter<W>) -> fmt::Result {
+        match self {
+            Site::Whole => Ok(()),
+            Site::Entry(v) => write!(f, " entry {v}"),
+            Site::Half(h) => write!(f, " half {h}"),
+            Site::Edge(k) => write!(f, " edge {k}"),
+            Site::Face(k) => write!(f, " face {k}"),
+            Site::Unplaced(v, why) => write!(f, " entry {v} {why}"),
+            Site::Edges(k, l) => write!(f, " edge {k} edge {l}"),
+            Site::EdgeEntry(k, v) => write!(f, " edge {k} entry {v}"),
+            Site::HalfEntry(h, v) => write!(f, " half {h} entry {v}"),
+            Site::FaceEntry(k, v) => write!(f, " face {k} entry {v}"),
+        }
+    }
+}
+
+pub impl fmt::Display for CheckFault as CheckFaultDisplay {
+    fn fmt<W: fmt::Write>(&self, f: &mut fmt::Formatter<W>) -> fmt::Result {
+        let rule = self.rule;
+        let clause = self.clause;
+        let site = self.site;
+        write!(f, "fault {rule} clause {clause}{site}")
     }
 }

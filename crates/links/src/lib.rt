@@ -1,6 +1,7 @@
 //! Link tables in lent memory, the eight rules, and the check.
-mod check;
+mod checking;
 mod clause;
+mod copy;
 mod fault;
 mod places;
 mod region;
@@ -10,8 +11,14 @@ mod search;
 mod shape;
 mod tables;
 
+pub use checking::check;
+pub use checking::first_entries;
+pub use copy::copy_places;
 pub use fault::CheckFault;
+pub use fault::CheckFaultDisplay;
 pub use fault::Site;
+pub use fault::SiteDisplay;
 pub use shape::Shape;
 pub use tables::NONE;
 pub use tables::Tables;
+pub use tables::look;

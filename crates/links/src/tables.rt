@@ -3,11 +3,18 @@ ghost use mathlib.Core.Path.{_≡_};
 ghost use Prim.Native.Nat.{_≤_, _<_};
 ghost use lib.ListN.{length};
 ghost use denote.Ref.{now};
-ghost use Rattle.links.specs.Tables.{size, ofEntry, ofHalf, ofFace};
+ghost use Rattle.links.specs.Tables.{looked, size, ofEntry, ofHalf, ofFace};
 use crate::shape::Shape;
 
 /// A link that leads nowhere.
 pub const NONE: u32 = 4294967295;
+
+/// The number at a place of the slice, if it belongs to its table; else none.
+pub fn look(words: &[u32], in_table: bool, at: usize) -> u32
+    ensures { λ r. ⌜ r ≡ looked (now (words .entry)) «in_table» at ⌝ }
+{
+    if in_table && at < words.len() { words[at] } else { NONE }
+}
 
 /// A slice that holds the tables of a shape.
 #[derive(Clone, Copy)]

@@ -21,6 +21,12 @@ pub enum Complaint<'a> {
     Extra(&'a str),
     /// The line speaks of a place that is not there.
     NoSpot(NoSpot),
+    /// The command needs a draft.
+    NoDraft,
+    /// The command needs a map.
+    NoMap,
+    /// The tables would take more numbers than a script may ask for.
+    TooLong(usize),
 }
 
 /// Why there is no place to speak of.
@@ -50,6 +56,9 @@ pub impl fmt::Display for Complaint<'_> as ComplaintDisplay {
             Complaint::Unread(what, word) => write!(f, "'{word}' is no {what}"),
             Complaint::Extra(word) => write!(f, "'{word}' is one word too many"),
             Complaint::NoSpot(why) => write!(f, "{why}"),
+            Complaint::NoDraft => write!(f, "there is no draft"),
+            Complaint::NoMap => write!(f, "there is no map"),
+            Complaint::TooLong(len) => write!(f, "{len} numbers are too many for a script"),
         }
     }
 }

@@ -24,7 +24,7 @@ pub enum Kind {
 impl Kind {
     /// The kind that the next word names.
     pub fn read<'a>(words: &mut Words<'a>) -> Result<Kind, Complaint<'a>> {
-        match words.word("the kind")? {
+        match words.word("kind")? {
             "point" => Ok(Kind::Point),
             "preset" => Ok(Kind::Preset),
             word => Err(Complaint::Unread("kind", word)),

@@ -3,6 +3,8 @@ mod complaint;
 mod kind;
 mod player;
 mod script;
+mod shelf;
+mod tables;
 use player::play;
 use std::io;
 use std::io::Read;

@@ -1,204 +1,315 @@
-// Plays a script: a shelf of one kind of entry at a time.
+// Plays a script: a shelf of one kind of entry at a time, with a draft or a map beside it.
 ghost use Rattle.std.specs.Results.{Cases};
-ghost use Rattle.pad.specs.Turns.{Left};
+ghost use Prim.Native.Nat.{_≤_};
+ghost use Rattle.pad.specs.Turns.{bytes, Left};
 use crate::complaint::Complaint;
 use crate::complaint::ComplaintDisplay;
-use crate::complaint::NoSpot;
 use crate::complaint::Trouble;
 use crate::complaint::TroubleFromComplaint;
 use crate::complaint::TroubleFromError;
-use crate::complaint::TroubleFromNoSpot;
-use crate::complaint::TroubleFromRefused;
 use crate::kind::Kind;
 use crate::kind::PointWritten;
 use crate::kind::PresetWritten;
 use crate::kind::Written;
 use crate::script::Script;
 use crate::script::Words;
-use entry::EntryFaultDisplay;
+use crate::shelf::play_shelf;
+use crate::tables::DraftShown;
+use crate::tables::MapShown;
+use crate::tables::Request;
+use crate::tables::read_request;
+use crate::tables::show;
+use crate::tables::tell_check;
+use crate::tables::tell_settle;
+use crate::tables::write_record;
 use entry::Point2;
 use entry::Preset;
-use entry::place;
-use plane::Place;
-use plane::contained_in_circumference;
-use plane::incircle;
-use plane::side;
-use plane::side_query;
-use std::fmt;
+use links::NONE;
+use links::Shape;
+use preset_map::Draft;
+use preset_map::Map;
 use std::io;
 use std::str::from_utf8;
 
-/// An entry, to be shown: its place or why it has none, and what else it has.
+/// What a line asks of those who play it.
 #[derive(Clone, Copy)]
-struct Shown<E>(E);
+pub enum Turn {
+    /// Nothing more.
+    Stay,
+    /// To start afresh with a kind of entry.
+    Kind(Kind),
+    /// To start a draft.
+    Draft(Request),
+    /// To settle the draft.
+    Settle,
+    /// To reopen the map.
+    Reopen,
+}
 
-impl<E: Written> fmt::Display for Shown<E> as ShownDisplay {
-    fn fmt<W: fmt::Write>(&self, f: &mut fmt::Formatter<W>) -> fmt::Result {
-        match place(&self.0) {
-            Ok(spot) => {
-                let x = spot.x();
-                let y = spot.y();
-                write!(f, "place ({x}, {y}), ")?;
-            }
-            Err(fault) => write!(f, "no place, {fault}, ")?,
-        }
-        self.0.details(f)
+/// The words of a line, or what is wrong with it as a text.
+fn words_of(line: &[u8]) -> Result<Words<'_>, Complaint<'_>> {
+    match from_utf8(line) {
+        Ok(text) => Ok(Words::new(text)),
+        Err(_) => Err(Complaint::NoText),
     }
 }
 
-/// `entry ..`: puts an entry on the shelf, with a place or without one.
-fn add_entry<'a, E: Written>(
+/// Plays a command that needs neither a draft nor a map.
+fn play_command<'a, E: Written>(
     rt: &LibcRuntime,
+    command: &'a str,
     words: &mut Words<'a>,
     shelf: &mut Vec<E>,
-) -> Result<(), Trouble<'a>> {
-    let entry = E::read(words)?;
-    words.end()?;
-    let number = shelf.len();
-    shelf.push(entry)?;
-    match place(&entry) {
-        Ok(spot) => {
-            let x = spot.x();
-            let y = spot.y();
-            let named = if entry.is_named() { "named" } else { "not named" };
-            println!(rt, "entry {number}: place ({x}, {y}), {named}")?;
+    count: &mut Option<usize>,
+) -> Result<Turn, Trouble<'a>> {
+    match command {
+        "kind" => {
+            let kind = Kind::read(words)?;
+            words.end()?;
+            return Ok(Turn::Kind(kind));
         }
-        Err(fault) => println!(rt, "entry {number}: refused, {fault}")?,
+        "draft" => return Ok(Turn::Draft(read_request(words)?)),
+        "out" | "half" | "face" | "check" | "settle" => return Err(Trouble::Line(Complaint::NoDraft)),
+        "reopen" | "show" => return Err(Trouble::Line(Complaint::NoMap)),
+        _ => {}
     }
-    Ok(())
-}
-
-/// The place of the entry of this number.
-fn spot<E: Written>(shelf: &[E], number: usize) -> Result<Place, NoSpot> {
-    let Some(entry) = shelf.get(number) else {
-        return Err(NoSpot::NoEntry(number));
-    };
-    match place(entry) {
-        Ok(spot) => Ok(spot),
-        Err(fault) => Err(NoSpot::NoPlace(number, fault)),
+    if play_shelf(rt, command, words, shelf, count)? {
+        return Ok(Turn::Stay);
     }
+    Err(Trouble::Line(Complaint::Unknown(command)))
 }
 
-/// `side A B Q`: where Q lies, seen along the way from A to B.
-fn tell_side<'a, E: Written>(
-    rt: &LibcRuntime,
-    words: &mut Words<'a>,
-    shelf: &[E],
-) -> Result<(), Trouble<'a>> {
-    let i = words.number::<usize>("entry number")?;
-    let j = words.number::<usize>("entry number")?;
-    let k = words.number::<usize>("entry number")?;
-    words.end()?;
-    let a = spot(shelf, i)?;
-    let b = spot(shelf, j)?;
-    let q = spot(shelf, k)?;
-    let value = side(a, b, q);
-    let info = side_query(a, b, q);
-    let verdict = if info.is_on_line() {
-        "on the line"
-    } else if info.is_on_left_side() {
-        "left"
-    } else {
-        "right"
-    };
-    println!(rt, "side {i} {j} {k}: {value}, {verdict}")?;
-    Ok(())
-}
-
-/// `circle A B C D`: whether D lies inside the circle of A, B, C.
-fn tell_circle<'a, E: Written>(
-    rt: &LibcRuntime,
-    words: &mut Words<'a>,
-    shelf: &[E],
-) -> Result<(), Trouble<'a>> {
-    let i = words.number::<usize>("entry number")?;
-    let j = words.number::<usize>("entry number")?;
-    let k = words.number::<usize>("entry number")?;
-    let l = words.number::<usize>("entry number")?;
-    words.end()?;
-    let a = spot(shelf, i)?;
-    let b = spot(shelf, j)?;
-    let c = spot(shelf, k)?;
-    let d = spot(shelf, l)?;
-    let value = incircle(a, b, c, d);
-    let verdict = if contained_in_circumference(a, b, c, d) {
-        "inside"
-    } else {
-        "not inside"
-    };
-    println!(rt, "circle {i} {j} {k} {l}: {value}, {verdict}")?;
-    Ok(())
-}
-
-/// `list`: every entry on the shelf.
-fn list<E: Written>(rt: &LibcRuntime, shelf: &[E]) -> io::Result<()> {
-    let count = shelf.len();
-    let kind = E::kind();
-    println!(rt, "list: {count} of kind {kind}")?;
-    for (number, entry) in shelf.iter().enumerate() {
-        let shown = Shown(*entry);
-        println!(rt, "  {number}: {shown}")?;
-    }
-    Ok(())
-}
-
-/// Plays one line; tells the kind that it turns to, if it does.
+/// Plays a line where there is no draft.
 fn play_line<'a, E: Written>(
     rt: &LibcRuntime,
     line: &'a [u8],
     shelf: &mut Vec<E>,
-) -> Result<Option<Kind>, Trouble<'a>> {
-    let Ok(text) = from_utf8(line) else {
-        return Err(Trouble::Line(Complaint::NoText));
-    };
-    let mut words = Words::new(text);
+    count: &mut Option<usize>,
+) -> Result<Turn, Trouble<'a>> {
+    let mut words = words_of(line)?;
     let Some(command) = words.next_word() else {
-        return Ok(None);
+        return Ok(Turn::Stay);
+    };
+    play_command(rt, command, &mut words, shelf, count)
+}
+
+/// Plays a line beside a draft.
+fn play_draft_line<'a, E: Written>(
+    rt: &LibcRuntime,
+    line: &'a [u8],
+    shelf: &mut Vec<E>,
+    count: &mut Option<usize>,
+    draft: &mut Draft<'_>,
+) -> Result<Turn, Trouble<'a>> {
+    let mut words = words_of(line)?;
+    let Some(command) = words.next_word() else {
+        return Ok(Turn::Stay);
+    };
+    if write_record(rt, command, &mut words, draft)? {
+        return Ok(Turn::Stay);
+    }
+    match command {
+        "check" => {
+            words.end()?;
+            let counted = count.unwrap_or(shelf.len());
+            tell_check(rt, draft.check(shelf.as_slice(), counted))?;
+            Ok(Turn::Stay)
+        }
+        "settle" => {
+            words.end()?;
+            Ok(Turn::Settle)
+        }
+        "show" => {
+            words.end()?;
+            show(rt, draft)?;
+            Ok(Turn::Stay)
+        }
+        _ => play_command(rt, command, &mut words, shelf, count),
+    }
+}
+
+/// Plays a line beside a map.
+fn play_map_line<'a, E: Written>(
+    rt: &LibcRuntime,
+    line: &'a [u8],
+    shelf: &mut Vec<E>,
+    count: &mut Option<usize>,
+    map: &Map<'_>,
+) -> Result<Turn, Trouble<'a>> {
+    let mut words = words_of(line)?;
+    let Some(command) = words.next_word() else {
+        return Ok(Turn::Stay);
     };
     match command {
-        "kind" => {
-            let kind = Kind::read(&mut words)?;
+        "reopen" => {
             words.end()?;
-            return Ok(Some(kind));
+            Ok(Turn::Reopen)
         }
-        "entry" => add_entry(rt, &mut words, shelf)?,
-        "side" => tell_side(rt, &mut words, shelf.as_slice())?,
-        "circle" => tell_circle(rt, &mut words, shelf.as_slice())?,
-        "list" => {
+        "show" => {
             words.end()?;
-            list(rt, shelf.as_slice())?;
+            show(rt, map)?;
+            Ok(Turn::Stay)
         }
-        _ => return Err(Trouble::Line(Complaint::Unknown(command))),
+        _ => play_command(rt, command, &mut words, shelf, count),
     }
-    Ok(None)
+}
+
+/// Tells what is wrong with a line; the script goes on.
+fn told(rt: &LibcRuntime, number: u64, played: Result<Turn, Trouble<'_>>) -> io::Result<Turn> {
+    match played {
+        Ok(turn) => Ok(turn),
+        Err(Trouble::Line(complaint)) => {
+            println!(rt, "line {number}: {complaint}")?;
+            Ok(Turn::Stay)
+        }
+        Err(Trouble::Outside(error)) => Err(error),
+    }
+}
+
+/// Tells that the map is a draft again.
+fn reopened(rt: &LibcRuntime) -> io::Result<Turn> {
+    println!(rt, "reopen: a draft again")?;
+    Ok(Turn::Stay)
+}
+
+/// Plays lines beside a map, up to its reopening, a new start or the end.
+fn play_map<'m, E: Written>(
+    rt: &LibcRuntime,
+    script: &mut Script,
+    shelf: &mut Vec<E>,
+    count: &mut Option<usize>,
+    map: Map<'m>,
+    left: &mut io::Result<Turn>,
+) -> Draft<'m>
+    ensures { λ _. ⌜ bytes (now (script .exit)) ≤ bytes (now (script .entry)) ⌝ }
+{
+    *left = Ok(Turn::Stay);
+    while let Some(line) = script.next_line() {
+        let number = script.line();
+        match told(rt, number, play_map_line(rt, line, shelf, count, &map)) {
+            Ok(Turn::Stay) | Ok(Turn::Settle) => {}
+            Ok(Turn::Reopen) => {
+                *left = reopened(rt);
+                break;
+            }
+            other => {
+                *left = other;
+                break;
+            }
+        }
+    }
+    map.reopen()
+}
+
+/// Plays lines beside a draft, and the map that it is settled into, up to a new start or the end.
+fn play_draft<E: Written>(
+    rt: &LibcRuntime,
+    script: &mut Script,
+    shelf: &mut Vec<E>,
+    count: &mut Option<usize>,
+    memory: &mut [u32],
+    shape: Shape,
+) -> io::Result<Turn>
+    ensures { λ r. ⌜ Cases r (λ turn. Left turn (now (script .entry)) (now (script .exit))) (λ _. bytes (now (script .exit)) ≤ bytes (now (script .entry))) ⌝ }
+{
+    let mut draft = Draft::new(memory, shape);
+    while let Some(line) = script.next_line() {
+        let number = script.line();
+        match told(rt, number, play_draft_line(rt, line, shelf, count, &mut draft))? {
+            Turn::Stay | Turn::Reopen => {}
+            Turn::Settle => {
+                let counted = count.unwrap_or(shelf.len());
+                let mut verdict = Ok(());
+                let map = draft.settle(shelf.as_slice(), counted, &mut verdict);
+                tell_settle(rt, verdict, map.shape())?;
+                let mut left = Ok(Turn::Stay);
+                draft = play_map(rt, script, shelf, count, map, &mut left);
+                match left? {
+                    Turn::Stay | Turn::Reopen | Turn::Settle => {}
+                    turn => return Ok(turn),
+                }
+            }
+            turn => return Ok(turn),
+        }
+    }
+    Ok(Turn::Stay)
+}
+
+/// Plays lines without a draft, up to a new start or the end.
+fn play_bare<E: Written>(
+    rt: &LibcRuntime,
+    script: &mut Script,
+    shelf: &mut Vec<E>,
+    count: &mut Option<usize>,
+) -> io::Result<Turn>
+    ensures { λ r. ⌜ Cases r (λ turn. Left turn (now (script .entry)) (now (script .exit))) (λ _. bytes (now (script .exit)) ≤ bytes (now (script .entry))) ⌝ }
+{
+    while let Some(line) = script.next_line() {
+        let number = script.line();
+        match told(rt, number, play_line(rt, line, shelf, count))? {
+            Turn::Stay | Turn::Settle | Turn::Reopen => {}
+            turn => return Ok(turn),
+        }
+    }
+    Ok(Turn::Stay)
+}
+
+/// Plays a draft over new memory.
+fn play_tables<E: Written>(
+    rt: &LibcRuntime,
+    script: &mut Script,
+    shelf: &mut Vec<E>,
+    count: &mut Option<usize>,
+    request: Request,
+) -> io::Result<Turn>
+    ensures { λ r. ⌜ Cases r (λ turn. Left turn (now (script .entry)) (now (script .exit))) (λ _. bytes (now (script .exit)) ≤ bytes (now (script .entry))) ⌝ }
+{
+    let n = request.shape.n;
+    let e = request.shape.e;
+    let f = request.shape.f;
+    println!(rt, "draft: n {n} e {e} f {f}")?;
+    let mut words = vec![in rt.alloc(); NONE; request.len]?;
+    play_draft(rt, script, shelf, count, words.as_mut_slice(), request.shape)
+}
+
+/// Plays drafts one after another, up to a line that turns to a kind or to the end.
+fn play_drafts<E: Written>(
+    rt: &LibcRuntime,
+    script: &mut Script,
+    shelf: &mut Vec<E>,
+    count: &mut Option<usize>,
+    request: Request,
+) -> io::Result<Turn>
+    ensures { λ _. ⌜ bytes (now (script .exit)) ≤ bytes (now (script .entry)) ⌝ }
+{
+    let mut request = request;
+    loop {
+        match play_tables(rt, script, shelf, count, request)? {
+            Turn::Draft(next) => request = next,
+            turn => return Ok(turn),
+        }
+    }
 }
 
 /// Plays lines over a new shelf of one kind, up to a line that turns to a kind or to the end.
-fn play_kind<E: Written>(rt: &LibcRuntime, script: &mut Script) -> io::Result<Option<Kind>>
-    ensures { λ r. ⌜ Cases r (λ turn. Left turn (now (script .entry)) (now (script .exit))) (λ _. Unit {0}) ⌝ }
+fn play_kind<E: Written>(rt: &LibcRuntime, script: &mut Script) -> io::Result<Turn>
+    ensures { λ r. ⌜ Cases r (λ turn. Left turn (now (script .entry)) (now (script .exit))) (λ _. bytes (now (script .exit)) ≤ bytes (now (script .entry))) ⌝ }
 {
     let kind = E::kind();
     println!(rt, "kind {kind}: the shelf is empty")?;
     let mut shelf: Vec<E> = Vec::new(rt.alloc());
-    while let Some(line) = script.next_line() {
-        match play_line(rt, line, &mut shelf) {
-            Ok(None) => {}
-            Ok(Some(kind)) => return Ok(Some(kind)),
-            Err(Trouble::Line(complaint)) => {
-                let number = script.line();
-                println!(rt, "line {number}: {complaint}")?;
-            }
-            Err(Trouble::Outside(error)) => return Err(error),
-        }
+    let mut count = None;
+    match play_bare(rt, script, &mut shelf, &mut count)? {
+        Turn::Draft(request) => play_drafts(rt, script, &mut shelf, &mut count, request),
+        turn => Ok(turn),
     }
-    Ok(None)
 }
 
 /// Plays a whole script, from a shelf of points on.
 pub fn play(rt: &LibcRuntime, text: &[u8]) -> io::Result<()> {
     let mut script = Script::new(text);
-    let mut turn = Some(Kind::Point);
-    while let Some(kind) = turn {
+    let mut turn = Turn::Kind(Kind::Point);
+    while let Turn::Kind(kind) = turn {
         turn = match kind {
             Kind::Point => play_kind::<Point2>(rt, &mut script)?,
             Kind::Preset => play_kind::<Preset>(rt, &mut script)?,

@@ -5,7 +5,7 @@ use Rattle.std.specs.Options.{orOther}
 use Rattle.links.specs.Shelf.{seen, spotAt}
 use Rattle.links.specs.Verdict.{told, rule1, rule2, link-rules}
 use Rattle.links.proofs.First.{told-then}
-use Rattle.links.proofs.check.check.Needs as need
+use Rattle.links.proofs.checking.judge.Needs as need
 
 pub returns : need.returns
 returns g c =

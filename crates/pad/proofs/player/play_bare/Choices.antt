@@ -1,7 +1,7 @@
 -- Each turn takes a line off the script.
 use Prim.Native.Nat.{_≤_}
 use Rattle.pad.specs.Turns.{bytes}
-use Rattle.pad.proofs.player.play_kind.Given as given
+use Rattle.pad.proofs.player.play_bare.Given as given
 
 abbrev pub Inv-loop-line : given.InvT-loop-line
 Inv-loop-line g l = bytes (l .script) ≤ bytes (l .entry .script)

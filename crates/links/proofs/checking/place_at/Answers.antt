@@ -2,7 +2,7 @@ use mathlib.Core.Path.{sym, ap, _∙_}
 use Rattle.entry.specs.Placing.{spotOf}
 use Rattle.links.specs.Verdict.{told, unplaced}
 use Rattle.links.proofs.Spots.{spot-is}
-use Rattle.links.proofs.check.place_at.Needs as need
+use Rattle.links.proofs.checking.place_at.Needs as need
 
 pub returns-in-Ok : need.returns-in-Ok
 returns-in-Ok g c =

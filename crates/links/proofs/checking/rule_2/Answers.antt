@@ -6,7 +6,7 @@ use Rattle.std.proofs.shelf.Results.{err-from-errBy}
 use Rattle.links.specs.Shelf.{spotAt}
 use Rattle.links.specs.Verdict.{told}
 use Rattle.links.proofs.First.{rule2-none, rule2-first, told-ok, told-err}
-use Rattle.links.proofs.check.rule_2.Needs as need
+use Rattle.links.proofs.checking.rule_2.Needs as need
 
 pub loop-v-again : need.loop-v-again
 loop-v-again g c = below-more _ _ (c .loop-v .inv) (told-ok _ (sym (c .place-at .ensures) ∙ c .in-Continue-place-at .was tt))

@@ -1,10 +1,12 @@
 //! The check of a draft's tables against a shelf.
+ghost use mathlib.Core.Logic.{_↔_};
 ghost use mathlib.Core.Path.{_≡_};
+ghost use Rattle.std.specs.declared.result.Result.the-variants.{Ok};
 ghost use Prim.Native.Nat.{_≤_, _<_, _^_};
 ghost use lib.ListN.{length, take};
 ghost use Rattle.std.specs.Options.{orOther};
 ghost use Rattle.links.specs.Law.{Every-place};
-ghost use Rattle.links.specs.Shelf.{answer, seen, spotAt};
+ghost use Rattle.links.specs.Shelf.{answer, Fits-shelf, seen, spotAt};
 ghost use Rattle.links.specs.Tables.{size};
 ghost use Rattle.links.specs.Verdict.{link-rules, rule2, told, unplaced};
 use crate::fault::CheckFault;
@@ -69,7 +71,7 @@ fn check_entries<E: HasPosition>(words: &[u32], shape: Shape, entries: &[E]) -> 
 }
 
 /// The first n entries of a shelf.
-fn first_entries<E>(shelf: &[E], n: usize) -> &[E]
+pub fn first_entries<E>(shelf: &[E], n: usize) -> &[E]
     requires { ⌜ n ≤ length (now shelf) ⌝ }
     ensures items { λ r. ⌜ now r ≡ take n (now (shelf .entry)) ⌝ }
     ensures len { λ r. ⌜ length (now r) ≡ n ⌝ }
@@ -77,10 +79,18 @@ fn first_entries<E>(shelf: &[E], n: usize) -> &[E]
     &shelf[0..n]
 }
 
-/// Judges link tables with a shelf: `Ok` if they are sound, else the first clause that fails.
-pub fn check<E: HasPosition>(words: &[u32], shape: Shape, shelf: &[E], count: usize) -> Result<(), CheckFault>
+/// The rules in order.
+fn judge<E: HasPosition>(words: &[u32], shape: Shape, shelf: &[E], count: usize) -> Result<(), CheckFault>
     ensures { λ r. ⌜ r ≡ told (answer (Scalar·GridScalar .reading) across along (now (words .entry)) shape (now (shelf .entry)) count) ⌝ }
 {
     rule_1(words, shape, count.min(shelf.len()))?;
     check_entries(words, shape, first_entries(shelf, shape.n as usize))
+}
+
+/// Judges link tables with a shelf: `Ok` exactly if they are sound, else the first clause that fails.
+pub fn check<E: HasPosition>(words: &[u32], shape: Shape, shelf: &[E], count: usize) -> Result<(), CheckFault>
+    ensures outcome { λ r. ⌜ r ≡ told (answer (Scalar·GridScalar .reading) across along (now (words .entry)) shape (now (shelf .entry)) count) ⌝ }
+    ensures law { λ r. ⌜ ((r ≡ Ok tt) ↔ Fits-shelf (Scalar·GridScalar .reading) across along (now (words .entry)) shape (now (shelf .entry)) count) ⌝ }
+{
+    judge(words, shape, shelf, count)
 }

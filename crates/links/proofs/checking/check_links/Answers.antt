@@ -5,7 +5,7 @@ use Rattle.links.specs.Links.{Links}
 use Rattle.links.specs.Shelf.{seen}
 use Rattle.links.specs.Verdict.{told, rule3, rule4, place-rules}
 use Rattle.links.proofs.First.{told-then, told-first}
-use Rattle.links.proofs.check.check_links.Needs as need
+use Rattle.links.proofs.checking.check_links.Needs as need
 
 pub returns-in-Break-rule-4 : need.returns-in-Break-rule-4
 returns-in-Break-rule-4 g c =

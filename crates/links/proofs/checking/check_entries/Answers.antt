@@ -5,7 +5,7 @@ use Rattle.links.specs.Shelf.{seen, spotAt}
 use Rattle.links.specs.Verdict.{told, rule2, link-rules}
 use Rattle.links.proofs.First.{told-ok, told-then}
 use Rattle.links.proofs.Law.{passes2}
-use Rattle.links.proofs.check.check_entries.Needs as need
+use Rattle.links.proofs.checking.check_entries.Needs as need
 
 pub check-links-requires : need.check-links-requires
 check-links-requires g c κs =

@@ -1,0 +1,10 @@
+//! Drafts and maps: link tables in lent memory, written freely as a draft, sound as a map.
+mod draft;
+mod filling;
+mod map;
+mod reading;
+mod settling;
+
+pub use draft::Draft;
+pub use draft::NoRecord;
+pub use map::Map;
