@@ -1,7 +1,7 @@
 #!/usr/bin/env python3
 """Compares the command `check` of the program pad with a reference checker.
 
-What it needs, besides Python 3:
+What it needs, besides Python 3.9 or newer:
 
 - pad: plays scripts, as docs/FORMATS.md describes them
 - the reference checker, run as `oracle check < MAP`: it writes `sound`, or
@@ -143,8 +143,8 @@ def script_of(tables):
 
 # ---- damages of single numbers ----
 #
-# A damage changes the tables and tells whether it could. Those of this group leave alone whether
-# the links fit together, so they can follow one another.
+# A damage changes the tables and tells whether it could. Those of this group ask nothing of the
+# tables, so that one can follow another.
 
 
 def any_link(rng, limit):
@@ -526,7 +526,8 @@ def round_places(rng, tables):
 
 
 SIMPLE = [change_half, change_half, change_half, change_out, change_adjacent, move_place, move_place, share_place,
-          place_on_edge, leave_grid, swap_places, swap_halves, change_count, change_count, change_lengths, change_shelf_count]
+          place_on_edge, leave_grid, swap_places, swap_halves, change_count, change_count, change_lengths,
+          change_shelf_count]
 FITTING = [rename_halves, rename_faces, flip, flip, join_faces, join_faces, add_spike, add_loop, add_twin, add_copy,
            cross_links, cross_links, merge_records, mirror, round_places]
 

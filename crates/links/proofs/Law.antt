@@ -27,7 +27,8 @@ use Rattle.links.specs.Tests as test
 use Rattle.links.specs.Tables.{size}
 use Rattle.links.specs.Verdict.{failing, failing2, once, each, pairs, roomy, rule1, rule2, unplaced, rule3, rule4, rule5, rule6, rule7, rule8, link-rules, judged, verdict}
 use Rattle.links.specs.Law.{Roomy, Gridded, Every-place, Accepted-if-sound}
-use Rattle.links.proofs.Decide.{never, dec-and, dec-and3, dec-and4, dec-or, dec-not, dec-implies, dec-same, dec-eq, dec-lt, dec-le, dec-leZ, dec-ltZ, dec-zero, dec-all, below-next}
+use Rattle.links.proofs.Decide.{never, is-true, dec-and, dec-and3, dec-and4, dec-or, dec-not, dec-implies, dec-same, dec-eq, dec-lt, dec-le, dec-leZ, dec-ltZ, dec-zero, dec-all, below-next}
+use Rattle.links.proofs.Halves.{rev-below}
 use Rattle.links.proofs.Walks.{dec-reached}
 
 -- no fault is found exactly if P
@@ -80,10 +81,6 @@ dec-present i = dec-not (dec-eq i none)
 and-then : {a b : Bool} {P Q : Type 0} → Decides a P → (P → Decides b Q) → Decides (a && b) (P × Q)
 and-then {a = true} p q = ((λ e. (p .0 refl, q (p .0 refl) .0 e)), (λ h. q (h .0) .1 (h .1)))
 and-then {a = false} p q = ((λ e. never e), (λ h. p .1 (h .0)))
-
-rev-below : (e h : ℕ) → h < 2 * e → rev h < 2 * e
-unfolding rev
-rev-below e h l = omega arith
 
 module _ (m : Links) where
   dec-named : (i : ℕ) → Decides (test.named m i) (R.Named m i)
@@ -177,9 +174,9 @@ module _ (m : Links) where
       (λ r3. then (passes4 r3)
       (λ _. then (each-passes 5 1 _ (m .f) _ _ (λ k _. dec-turned k))
       (λ _. then
-        (then (each-passes 6 1 _ (m .e) _ _ (λ k _. dec-apart k))
-        (λ _. then (pairs-passes 6 2 _ (m .e) (m .e) _ _ (λ k l _ _. dec-single k l))
-        (λ _. pairs-passes 6 3 _ (m .e) (m .n) _ _ (λ k v _ _. dec-clear k v))))
+      (then (each-passes 6 1 _ (m .e) _ _ (λ k _. dec-apart k))
+      (λ _. then (pairs-passes 6 2 _ (m .e) (m .e) _ _ (λ k l _ _. dec-single k l))
+      (λ _. pairs-passes 6 3 _ (m .e) (m .n) _ _ (λ k v _ _. dec-clear k v))))
       (λ _. then (pairs-passes 7 1 _ (halves m) (m .n) _ _ (λ h v _ _. dec-hulled h v))
       (λ _. pairs-passes 8 1 _ (m .f) (m .n) _ _ (λ k v _ _. dec-empty k v))))))
 
@@ -217,6 +214,12 @@ module _ (m : Links) where
     ),
   )
 
+-- a map whose clauses all pass is sound: for maps that are written out
+pub sound-by-tests : (m : Links) → T (test.counted m) → T (test.all (m .n) (λ v. leb (m .x v) 16383 && leb (m .y v) 16383)) → link-rules m ≡ None → R.Sound m
+sound-by-tests m c p e =
+    sound-in m (dec-and4 (dec-le (m .n) 4096) (dec-le (m .e) 12288) (dec-le 1 (m .f)) (dec-le (m .f) 8192) .0 (is-true _ c))
+    (dec-all (m .n) _ (R.Placed m) (λ v _. dec-and (dec-le (m .x v) 16383) (dec-le (m .y v) 16383)) .0 (is-true _ p)) (passes m .0 e)
+
 -- ---- the counts and the tables
 module _ (w : List ℕ) (s : Shape) (count : ℕ) where
   abbrev Sized : Type 0
@@ -250,12 +253,14 @@ passes2 (suc n) spot =
 -- ---- the law
 pub law : Accepted-if-sound
 law w s count spot grid =
-    let all-rules = then (passes1 w s count) (λ _. then (passes2 (s .n) spot) (λ _. passes (judged w s spot))) in
-    ((λ e. let h = all-rules .0 e in
-      (record { counts = h .0 .1 .0; holds = h .0 .1 .1 .0; entries = h .0 .1 .1 .1 .0; edges = h .0 .1 .1 .1 .1; faces = h .0 .1 .1 .1 .2 }
-      , h .1 .0
-      , sound-in (judged w s spot) (h .0 .0) (λ v l. placed v (h .1 .0 v l)) (h .1 .1))),
-     (λ h. all-rules .1 ((h .2 .counted, (h .0 .counts, (h .0 .holds, (h .0 .entries, h .0 .edges, h .0 .faces)))), (h .1, sound-out (judged w s spot) (h .2)))))
+    let all-rules = then (passes1 w s count) (λ _. then (passes2 (s .n) spot) (λ _. passes (judged w s spot))) in (
+      (λ e. let h = all-rules .0 e in (
+        record { counts = h .0 .1 .0; holds = h .0 .1 .1 .0; entries = h .0 .1 .1 .1 .0; edges = h .0 .1 .1 .1 .1; faces = h .0 .1 .1 .1 .2 },
+        h .1 .0,
+        sound-in (judged w s spot) (h .0 .0) (λ v l. placed v (h .1 .0 v l)) (h .1 .1),
+      )),
+      (λ h. all-rules .1 ((h .2 .counted, (h .0 .counts, (h .0 .holds, (h .0 .entries, h .0 .edges, h .0 .faces)))), (h .1, sound-out (judged w s spot) (h .2)))),
+    )
   where
     placed : (v : ℕ) → (p : ℕ × ℕ) × (spot v ≡ Ok p) → R.Placed (judged w s spot) v
     placed v (p, e) = rw e (grid v (p .0) (p .1) e)

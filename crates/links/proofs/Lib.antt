@@ -1,5 +1,6 @@
 pub mod Decide
 pub mod First
+pub mod Halves
 pub mod Copying
 pub mod Cycles
 pub mod Settling
@@ -7,3 +8,4 @@ pub mod Sights
 pub mod Spots
 pub mod Walks
 pub mod Law
+pub mod Worked

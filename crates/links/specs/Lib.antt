@@ -7,3 +7,4 @@ pub mod Verdict
 pub mod Law
 pub mod Kept
 pub mod Shelf
+pub mod Worked

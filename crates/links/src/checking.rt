@@ -59,7 +59,11 @@ fn check_links<E: HasPosition>(t: Tables<'_>, entries: &[E]) -> Result<(), Check
 }
 
 /// The rules after the first, once there is room.
-fn check_entries<E: HasPosition>(words: &[u32], shape: Shape, entries: &[E]) -> Result<(), CheckFault>
+fn check_entries<E: HasPosition>(
+    words: &[u32],
+    shape: Shape,
+    entries: &[E],
+) -> Result<(), CheckFault>
     requires holds { ⌜ size shape ≤ length (now words) ⌝ }
     requires counts { ⌜ length (now entries) ≡ shape .n ⌝ }
     requires sized { ⌜ shape .n ≤ 4096 ⌝ ∗ ⌜ shape .e ≤ 12288 ⌝ ∗ ⌜ shape .f ≤ 8192 ⌝ }
@@ -80,7 +84,12 @@ pub fn first_entries<E>(shelf: &[E], n: usize) -> &[E]
 }
 
 /// The rules in order.
-fn judge<E: HasPosition>(words: &[u32], shape: Shape, shelf: &[E], count: usize) -> Result<(), CheckFault>
+fn judge<E: HasPosition>(
+    words: &[u32],
+    shape: Shape,
+    shelf: &[E],
+    count: usize,
+) -> Result<(), CheckFault>
     ensures { λ r. ⌜ r ≡ told (answer (Scalar·GridScalar .reading) across along (now (words .entry)) shape (now (shelf .entry)) count) ⌝ }
 {
     rule_1(words, shape, count.min(shelf.len()))?;
@@ -88,7 +97,12 @@ fn judge<E: HasPosition>(words: &[u32], shape: Shape, shelf: &[E], count: usize)
 }
 
 /// Judges link tables with a shelf: `Ok` exactly if they are sound, else the first clause that fails.
-pub fn check<E: HasPosition>(words: &[u32], shape: Shape, shelf: &[E], count: usize) -> Result<(), CheckFault>
+pub fn check<E: HasPosition>(
+    words: &[u32],
+    shape: Shape,
+    shelf: &[E],
+    count: usize,
+) -> Result<(), CheckFault>
     ensures outcome { λ r. ⌜ r ≡ told (answer (Scalar·GridScalar .reading) across along (now (words .entry)) shape (now (shelf .entry)) count) ⌝ }
     ensures law { λ r. ⌜ ((r ≡ Ok tt) ↔ Fits-shelf (Scalar·GridScalar .reading) across along (now (words .entry)) shape (now (shelf .entry)) count) ⌝ }
 {

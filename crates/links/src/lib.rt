@@ -10,6 +10,7 @@ mod rules;
 mod search;
 mod shape;
 mod tables;
+mod theorems;
 
 pub use checking::check;
 pub use checking::first_entries;
@@ -22,3 +23,5 @@ pub use shape::Shape;
 pub use tables::NONE;
 pub use tables::Tables;
 pub use tables::look;
+pub use theorems::accepted_if_sound_stands;
+pub use theorems::worked_maps_stands;

@@ -14,7 +14,9 @@ use crate::tables::Tables;
 /// Halves that belong together: whose they are, the step from one to the next, and where the cycle starts.
 pub trait Ring {
     ghost step: { Links → ℕ → ℕ };
+
     ghost owner: { Links → ℕ → ℕ };
+
     ghost root: { Links → ℕ → ℕ };
 
     fn step(&self, t: Tables<'_>, h: u32) -> u32
@@ -32,7 +34,9 @@ pub struct Rotation;
 
 pub impl Ring for Rotation as RotationRing {
     ghost step = { ccw };
+
     ghost owner = { λ m. m .origin };
+
     ghost root = { λ m. m .out };
 
     fn step(&self, t: Tables<'_>, h: u32) -> u32 {
@@ -53,7 +57,9 @@ pub struct Border;
 
 pub impl Ring for Border as BorderRing {
     ghost step = { λ m. m .next };
+
     ghost owner = { λ m. m .face };
+
     ghost root = { λ m. m .adj };
 
     fn step(&self, t: Tables<'_>, h: u32) -> u32 {
@@ -116,7 +122,11 @@ fn lowered<R: Ring>(ring: &R, t: Tables<'_>, halves: u32, low: u32, h: u32) -> u
     ensures { λ r. ⌜ r ≡ lower low (R·Ring .owner (held (now (t .entry .words)) (t .entry .shape)) h) (home (R·Ring .step (held (now (t .entry .words)) (t .entry .shape))) halves (R·Ring .root (held (now (t .entry .words)) (t .entry .shape)) (R·Ring .owner (held (now (t .entry .words)) (t .entry .shape)) h)) h) ⌝ }
 {
     let k = ring.owner(t, h);
-    if k < low && !is_home(ring, t, halves, k, h) { k } else { low }
+    if k < low && !is_home(ring, t, halves, k, h) {
+        k
+    } else {
+        low
+    }
 }
 
 /// The lowest number below `count` whose halves are not one cycle from its root.

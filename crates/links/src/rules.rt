@@ -62,7 +62,9 @@ pub fn rule_1(words: &[u32], s: Shape, count: usize) -> Result<(), CheckFault>
     try_once(s.n <= 4096 && s.e <= 12288 && s.f >= 1 && s.f <= 8192, 1, 1)?;
     try_once(count == s.n as usize, 1, 2)?;
     try_once(s.size() <= words.len(), 1, 3)?;
-    let roomy = s.n <= s.entries && s.e as u64 + s.n as u64 <= s.edges as u64 && s.f as u64 + s.n as u64 <= s.faces as u64;
+    let roomy = s.n <= s.entries
+        && s.e as u64 + s.n as u64 <= s.edges as u64
+        && s.f as u64 + s.n as u64 <= s.faces as u64;
     try_once(roomy, 1, 4)
 }
 
@@ -80,7 +82,13 @@ pub fn rule_3(t: Tables<'_>) -> Result<(), CheckFault>
 }
 
 /// Tries whether the halves of each record are one cycle.
-fn try_rings<R: Ring>(ring: &R, t: Tables<'_>, kind: Kind, count: u32, halves: u32) -> Result<(), CheckFault>
+fn try_rings<R: Ring>(
+    ring: &R,
+    t: Tables<'_>,
+    kind: Kind,
+    count: u32,
+    halves: u32,
+) -> Result<(), CheckFault>
     requires { ⌜ halves ≡ 2 * (t .shape .e) ⌝ }
     ensures { λ r. ⌜ r ≡ told (each 4 4 (siteOf kind) count (whole (held (now (t .entry .words)) (t .entry .shape)) (R·Ring .step (held (now (t .entry .words)) (t .entry .shape))) (R·Ring .owner (held (now (t .entry .words)) (t .entry .shape))) (R·Ring .root (held (now (t .entry .words)) (t .entry .shape))))) ⌝ }
 {

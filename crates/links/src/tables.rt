@@ -13,7 +13,11 @@ pub const NONE: u32 = 4294967295;
 pub fn look(words: &[u32], in_table: bool, at: usize) -> u32
     ensures { λ r. ⌜ r ≡ looked (now (words .entry)) «in_table» at ⌝ }
 {
-    if in_table && at < words.len() { words[at] } else { NONE }
+    if in_table && at < words.len() {
+        words[at]
+    } else {
+        NONE
+    }
 }
 
 /// A slice that holds the tables of a shape.

@@ -5,6 +5,7 @@ mod player;
 mod script;
 mod shelf;
 mod tables;
+
 use player::play;
 use std::io;
 use std::io::Read;

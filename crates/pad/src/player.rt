@@ -69,7 +69,9 @@ fn play_command<'a, E: Written>(
             return Ok(Turn::Kind(kind));
         }
         "draft" => return Ok(Turn::Draft(read_request(words)?)),
-        "out" | "half" | "face" | "check" | "settle" => return Err(Trouble::Line(Complaint::NoDraft)),
+        "out" | "half" | "face" | "check" | "settle" => return Err(Trouble::Line(
+            Complaint::NoDraft,
+        )),
         "reopen" | "show" => return Err(Trouble::Line(Complaint::NoMap)),
         _ => {}
     }
@@ -215,7 +217,11 @@ fn play_draft<E: Written>(
     let mut draft = Draft::new(memory, shape);
     while let Some(line) = script.next_line() {
         let number = script.line();
-        match told(rt, number, play_draft_line(rt, line, shelf, count, &mut draft))? {
+        match told(
+            rt,
+            number,
+            play_draft_line(rt, line, shelf, count, &mut draft),
+        )? {
             Turn::Stay | Turn::Reopen => {}
             Turn::Settle => {
                 let counted = count.unwrap_or(shelf.len());
@@ -269,7 +275,14 @@ fn play_tables<E: Written>(
     let f = request.shape.f;
     println!(rt, "draft: n {n} e {e} f {f}")?;
     let mut words = vec![in rt.alloc(); NONE; request.len]?;
-    play_draft(rt, script, shelf, count, words.as_mut_slice(), request.shape)
+    play_draft(
+        rt,
+        script,
+        shelf,
+        count,
+        words.as_mut_slice(),
+        request.shape,
+    )
 }
 
 /// Plays drafts one after another, up to a line that turns to a kind or to the end.

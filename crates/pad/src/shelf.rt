@@ -49,7 +49,11 @@ fn add_entry<'a, E: Written>(
         Ok(spot) => {
             let x = spot.x();
             let y = spot.y();
-            let named = if entry.is_named() { "named" } else { "not named" };
+            let named = if entry.is_named() {
+                "named"
+            } else {
+                "not named"
+            };
             println!(rt, "entry {number}: place ({x}, {y}), {named}")?;
         }
         Err(fault) => println!(rt, "entry {number}: refused, {fault}")?,
@@ -132,7 +136,11 @@ fn list<E: Written>(rt: &LibcRuntime, shelf: &[E]) -> io::Result<()> {
 }
 
 /// `count C`: the count beside the shelf, for check and settle.
-fn set_count<'a>(rt: &LibcRuntime, words: &mut Words<'a>, count: &mut Option<usize>) -> Result<(), Trouble<'a>> {
+fn set_count<'a>(
+    rt: &LibcRuntime,
+    words: &mut Words<'a>,
+    count: &mut Option<usize>,
+) -> Result<(), Trouble<'a>> {
     let given = words.number::<usize>("count")?;
     words.end()?;
     *count = Some(given);

@@ -27,7 +27,11 @@ pub struct Request {
 }
 
 /// A number at the end of a line that may be left out.
-fn number_or<'a>(word: Option<&'a str>, what: &'static str, other: u32) -> Result<u32, Complaint<'a>> {
+fn number_or<'a>(
+    word: Option<&'a str>,
+    what: &'static str,
+    other: u32,
+) -> Result<u32, Complaint<'a>> {
     let Some(word) = word else {
         return Ok(other);
     };
@@ -43,8 +47,16 @@ pub fn read_request<'a>(words: &mut Words<'a>) -> Result<Request, Complaint<'a>>
     let e = words.number::<u32>("number of edges")?;
     let f = words.number::<u32>("number of faces")?;
     let entries = number_or(words.next_word(), "length of the entry table", n)?;
-    let edges = number_or(words.next_word(), "length of the edge table", e.saturating_add(n))?;
-    let faces = number_or(words.next_word(), "length of the face table", f.saturating_add(n))?;
+    let edges = number_or(
+        words.next_word(),
+        "length of the edge table",
+        e.saturating_add(n),
+    )?;
+    let faces = number_or(
+        words.next_word(),
+        "length of the face table",
+        f.saturating_add(n),
+    )?;
     let shape = Shape {
         n,
         e,
@@ -87,12 +99,21 @@ struct Link(u32);
 impl fmt::Display for Link as LinkDisplay {
     fn fmt<W: fmt::Write>(&self, f: &mut fmt::Formatter<W>) -> fmt::Result {
         let link = self.0;
-        if link == NONE { write!(f, "-") } else { write!(f, "{link}") }
+        if link == NONE {
+            write!(f, "-")
+        } else {
+            write!(f, "{link}")
+        }
     }
 }
 
 /// Tells that a write was done, or refused.
-fn tell_write(rt: &LibcRuntime, command: &str, number: u32, done: Result<(), NoRecord>) -> io::Result<()> {
+fn tell_write(
+    rt: &LibcRuntime,
+    command: &str,
+    number: u32,
+    done: Result<(), NoRecord>,
+) -> io::Result<()> {
     match done {
         Ok(()) => println!(rt, "{command} {number}: written"),
         Err(refused) => {
@@ -220,7 +241,10 @@ pub fn show<T: Shown>(rt: &LibcRuntime, tables: &T) -> io::Result<()> {
         let prev = Link(tables.half(1, h));
         let face = Link(tables.half(2, h));
         let origin = Link(tables.half(3, h));
-        println!(rt, "  half {h}: next {next} prev {prev} face {face} origin {origin}")?;
+        println!(
+            rt,
+            "  half {h}: next {next} prev {prev} face {face} origin {origin}"
+        )?;
     }
     for k in 0..f {
         let link = Link(tables.face(k));

@@ -24,7 +24,11 @@ fn half_number(words: &[u32], s: Shape, field: u8, h: u32) -> u32
     ensures { λ r. ⌜ r ≡ looked (now (words .entry)) (ltb h (2 * s .edges)) (halfAt s h + field) ⌝ }
 {
     let start = 3 * s.entries as usize + 4 * h as usize;
-    look(words, (h as u64) < 2 * s.edges as u64, start + field as usize)
+    look(
+        words,
+        (h as u64) < 2 * s.edges as u64,
+        start + field as usize,
+    )
 }
 
 /// The number of a face: its `adjacent_edge`.
@@ -32,7 +36,11 @@ fn face_number(words: &[u32], s: Shape, k: u32) -> u32
     ensures { λ r. ⌜ r ≡ looked (now (words .entry)) (ltb k (s .faces)) (faceAt s k) ⌝ }
 {
     let edges = 8 * s.edges as usize;
-    look(words, k < s.faces, 3 * s.entries as usize + edges + k as usize)
+    look(
+        words,
+        k < s.faces,
+        3 * s.entries as usize + edges + k as usize,
+    )
 }
 
 impl<'a> Draft<'a> {

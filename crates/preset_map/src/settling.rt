@@ -50,7 +50,12 @@ fn shape_after(verdict: Result<(), CheckFault>, s: Shape) -> Shape
 }
 
 /// Judges tables with a shelf, and writes the shelf's places beside the links where they are accepted.
-fn settle_words<E: HasPosition>(words: &mut [u32], shape: Shape, shelf: &[E], count: usize) -> Result<(), CheckFault>
+fn settle_words<E: HasPosition>(
+    words: &mut [u32],
+    shape: Shape,
+    shelf: &[E],
+    count: usize,
+) -> Result<(), CheckFault>
     ensures outcome { λ r. ⌜ r ≡ told (answer (Scalar·GridScalar .reading) across along (now (words .entry)) shape (now (shelf .entry)) count) ⌝ }
     ensures words { λ r. ⌜ now (words .exit) ≡ wordsAfter r (now (words .entry)) (spotAt (Scalar·GridScalar .reading) across along (take (shape .n) (now (shelf .entry)))) (shape .n) ⌝ }
     ensures sound { λ r. ⌜ ∥ Kept (now (words .exit)) (shapeAfter r shape) ∥₁ ⌝ }
@@ -66,7 +71,12 @@ fn settle_words<E: HasPosition>(words: &mut [u32], shape: Shape, shelf: &[E], co
 
 impl<'a> Draft<'a> {
     /// Uses the draft up: a map with the shelf's places where check accepts it, else check's fault beside an empty map.
-    pub fn settle<E: HasPosition>(self, shelf: &[E], count: usize, out: &mut Result<(), CheckFault>) -> Map<'a>
+    pub fn settle<E: HasPosition>(
+        self,
+        shelf: &[E],
+        count: usize,
+        out: &mut Result<(), CheckFault>,
+    ) -> Map<'a>
         ensures outcome { λ _. ⌜ now (out .exit) ≡ told (answer (Scalar·GridScalar .reading) across along (now (self .entry .words)) (self .entry .shape) (now (shelf .entry)) count) ⌝ }
         ensures words { λ r. ⌜ now (r .words) ≡ wordsAfter (now (out .exit)) (now (self .entry .words)) (spotAt (Scalar·GridScalar .reading) across along (take (self .entry .shape .n) (now (shelf .entry)))) (self .entry .shape .n) ⌝ }
         ensures shape { λ r. ⌜ r .shape ≡ shapeAfter (now (out .exit)) (self .entry .shape) ⌝ }

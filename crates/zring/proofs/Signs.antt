@@ -3,7 +3,7 @@ use mathlib.Core.Path.{_≡_, refl, sym, _∙_, ap, subst}
 use mathlib.Core.Logic.{_⊎_, inl, inr}
 use Prim.Native.Nat.{ℕ, zero, suc, _*_, _<_}
 use native.Mathlib.Omega.{arith}
-use lib.IntN.{ℤ, pos, negsuc, _+ℤ_, _*ℤ_, negℤ, *ℤ-comm, zero-*ℤ}
+use lib.IntN.{ℤ, pos, negsuc, _+ℤ_, _-ℤ_, _*ℤ_, negℤ, *ℤ-comm, zero-*ℤ}
 use lib.Signed.{_≤ℤ_, _<ℤ_}
 use borrow.Author.Differences.{ints}
 use Rattle.zring.proofs.Laws.{neg-mul}
@@ -45,6 +45,12 @@ zero-≥ z e = omega (arith, ints)
 pub zero-≤ : (z : ℤ) → z ≡ pos 0 → z ≤ℤ pos 0
 zero-≤ z e = omega (arith, ints)
 
+pub zero-clash : (z : ℤ) → z ≡ pos 0 → pos 0 <ℤ z → ⊥
+zero-clash z e h = omega (arith, ints)
+
+pub one-≥ : (z : ℤ) → z ≡ pos 1 → pos 1 ≤ℤ z
+one-≥ z e = omega (arith, ints)
+
 pub both-zero : (z : ℤ) → pos 0 ≤ℤ z → z ≤ℤ pos 0 → z ≡ pos 0
 both-zero z h l = omega (arith, ints)
 
@@ -60,6 +66,19 @@ neg-> x y e h = omega (arith, ints)
 
 pub neg-< : (x y : ℤ) → x ≡ negℤ y → pos 0 <ℤ y → x <ℤ pos 0
 neg-< x y e h = omega (arith, ints)
+
+pub neg-back-≥ : (x y : ℤ) → x ≡ negℤ y → x ≤ℤ pos 0 → pos 0 ≤ℤ y
+neg-back-≥ x y e h = omega (arith, ints)
+
+pub neg-zero : (x y : ℤ) → x ≡ negℤ y → y ≡ pos 0 → x ≡ pos 0
+neg-zero x y e h = omega (arith, ints)
+
+-- neither is positive: both are zero
+pub neg-both : (x y : ℤ) → x ≡ negℤ y → x ≤ℤ pos 0 → y ≤ℤ pos 0 → x ≡ pos 0
+neg-both x y e h l = omega (arith, ints)
+
+pub neg-clash : (x y : ℤ) → x ≡ negℤ y → pos 0 <ℤ x → pos 0 <ℤ y → ⊥
+neg-clash x y e h l = omega (arith, ints)
 
 neg-back : (x y : ℤ) → x ≡ negℤ y → y ≡ negℤ x
 neg-back x y e = omega (arith, ints)
@@ -79,6 +98,12 @@ sum-> m s t e h l = omega (arith, ints)
 
 pub sum-≤ : (m s t : ℤ) → m ≡ s +ℤ t → s ≤ℤ pos 0 → t ≤ℤ pos 0 → m ≤ℤ pos 0
 sum-≤ m s t e h l = omega (arith, ints)
+
+pub sum-clash : (m s t : ℤ) → m ≡ s +ℤ t → pos 0 <ℤ m → s ≡ pos 0 → t ≡ pos 0 → ⊥
+sum-clash m s t e h p q = omega (arith, ints)
+
+pub diff-≥ : (m n : ℤ) → n ≤ℤ m → pos 0 ≤ℤ (m -ℤ n)
+diff-≥ m n h = omega (arith, ints)
 
 -- ---- products
 pub mul-≥≥ : (a b : ℤ) → pos 0 ≤ℤ a → pos 0 ≤ℤ b → pos 0 ≤ℤ (a *ℤ b)
@@ -110,6 +135,10 @@ mul-<> a b h l =
 
 pub mul->< : (a b : ℤ) → pos 0 <ℤ a → b <ℤ pos 0 → (a *ℤ b) <ℤ pos 0
 mul->< a b h l = subst (λ z. z <ℤ pos 0) (*ℤ-comm b a) (mul-<> b a l h)
+
+pub mul-<< : (a b : ℤ) → a <ℤ pos 0 → b <ℤ pos 0 → pos 0 <ℤ (a *ℤ b)
+mul-<< a b h l =
+    neg-> (a *ℤ b) (negℤ a *ℤ b) (neg-back (negℤ a *ℤ b) (a *ℤ b) (neg-mul a b)) (mul->< (negℤ a) b (neg-> (negℤ a) a refl h) l)
 
 pub sq-≥ : (a : ℤ) → pos 0 ≤ℤ (a *ℤ a)
 sq-≥ (pos a) = pos-le (a * a)

@@ -21,4 +21,4 @@ returns g c =
     c .check-links .ensures
     ∙ (λ i. told (link-rules (seen (g .Scalar·GridScalar .reading) (g .E·HasPosition .across) (g .E·HasPosition .along) (c .new-t .ensures .words i) (c .new-t .ensures .shape i) (c .args .entries .now))))
     ∙ sym (told-then (rule2 (length (c .args .entries .now)) (spotAt (g .Scalar·GridScalar .reading) (g .E·HasPosition .across) (g .E·HasPosition .along) (c .args .entries .now))) (link-rules (seen (g .Scalar·GridScalar .reading) (g .E·HasPosition .across) (g .E·HasPosition .along) (c .args .words .now) (c .args .shape) (c .args .entries .now)))
-        (sym (c .rule-2 .ensures) ∙ c .in-Continue-rule-2 .was tt))
+    (sym (c .rule-2 .ensures) ∙ c .in-Continue-rule-2 .was tt))

@@ -14,4 +14,4 @@ returns g c =
     c .check-entries .ensures
     ∙ (λ i. told (orOther (rule2 (rest .len i) (spotAt (g .Scalar·GridScalar .reading) (g .E·HasPosition .across) (g .E·HasPosition .along) (rest .items i))) (link-rules (seen (g .Scalar·GridScalar .reading) (g .E·HasPosition .across) (g .E·HasPosition .along) (c .args .words .now) (c .args .shape) (rest .items i)))))
     ∙ sym (told-then (rule1 (c .args .words .now) (c .args .shape) (min (c .args .count) (length (c .args .shelf .now)))) _
-        (ap (λ k. told (rule1 (c .args .words .now) (c .args .shape) k)) (sym (c .min .ensures)) ∙ sym (c .rule-1 .ensures) ∙ c .in-Continue-rule-1 .was tt))
+    (ap (λ k. told (rule1 (c .args .words .now) (c .args .shape) k)) (sym (c .min .ensures)) ∙ sym (c .rule-1 .ensures) ∙ c .in-Continue-rule-1 .was tt))

@@ -13,7 +13,7 @@ returns-in-Some g c =
     let m : Links = (seen (g .Scalar·GridScalar .reading) (g .E·HasPosition .across) (g .E·HasPosition .along) (c .args .t .words .now) (c .args .t .shape) (c .args .entries .now)) in
     ap (λ s. Err (broken (c .args .rule) (c .args .number) s)) (c .site .ensures)
     ∙ sym (pairs-first (c .args .rule) (c .args .number) (pairOf (c .args .pair)) (c .args .count) (g .C·PairClause .many m) (g .C·PairClause .test m)
-        (c .loop-i .i) (c .in-Some .j) (c .loop-i-test .taken) (c .loop-i .inv) (sym (c .in-Some .ensures tt)))
+    (c .loop-i .i) (c .in-Some .j) (c .loop-i-test .taken) (c .loop-i .inv) (sym (c .in-Some .ensures tt)))
 
 pub loop-i-again : need.loop-i-again
 loop-i-again g c = below-more _ _ (c .loop-i .inv) (sym (c .in-None .ensures tt))

@@ -1,0 +1,16 @@
+pub mod Cycle
+pub mod Gaps
+pub mod Halves
+pub mod New
+pub mod Star
+pub mod Hull
+pub mod Mesh
+pub mod Holes
+pub mod Apex
+pub mod Measure
+pub mod Erased
+pub mod Wedge
+pub mod Legal
+pub mod Ears
+pub mod StarMesh
+pub mod Scan

@@ -1,0 +1,10 @@
+pub mod Ring
+pub mod Star
+pub mod Halves
+pub mod Mesh
+pub mod Measure
+pub mod Statements
+pub mod Erased
+pub mod Legal
+pub mod Start
+pub mod Scan

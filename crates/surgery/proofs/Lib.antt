@@ -1,0 +1,16 @@
+pub mod Cycles
+pub mod Updates
+pub mod Moves
+pub mod Roots
+pub mod Flip
+pub mod Keeps
+pub mod Renaming
+pub mod MoveEdge
+pub mod MoveOne
+pub mod Cleanup
+pub mod Hole
+pub mod Ear
+pub mod FanStep
+pub mod Straight
+pub mod Theorems
+pub mod Sound

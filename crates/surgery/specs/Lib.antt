@@ -1,0 +1,11 @@
+pub mod Linked
+pub mod Update
+pub mod Removal
+pub mod Fan
+pub mod Cut
+pub mod Ear
+pub mod Straight
+pub mod Renamed
+pub mod Alive
+pub mod Theorems
+pub mod Sound
