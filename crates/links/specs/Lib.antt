@@ -4,6 +4,7 @@ pub mod Tests
 pub mod Tables
 pub mod Rings
 pub mod Verdict
+pub mod Numbers
 pub mod Law
 pub mod Kept
 pub mod Shelf

@@ -1,5 +1,6 @@
 //! What a check answers of a draft that is not sound.
 ghost use mathlib.Core.Path.{_≡_};
+ghost use Rattle.links.specs.Numbers.{numbersOf};
 ghost use Rattle.links.specs.Verdict.{pairOf, siteOf};
 use entry::EntryFault;
 use entry::EntryFaultDisplay;
@@ -28,6 +29,53 @@ pub struct CheckFault {
     pub rule: u8,
     pub clause: u8,
     pub site: Site,
+}
+
+/// A fault in numbers: none is kind 0, an entry 1, a half 2, an edge 3, a face 4; what is not named is 0.
+#[derive(Clone, Copy)]
+pub struct FaultNumbers {
+    pub rule: u8,
+    pub clause: u8,
+    pub kind: u8,
+    pub index: u32,
+    pub other_kind: u8,
+    pub other_index: u32,
+    pub axis: u8,
+    pub cause: u8,
+}
+
+impl CheckFault {
+    /// The fault in numbers.
+    pub fn numbers(self) -> FaultNumbers
+        ensures { λ r. ⌜ r ≡ numbersOf self ⌝ }
+    {
+        let (kind, index, other_kind, other_index) = match self.site {
+            Site::Whole => (0, 0, 0, 0),
+            Site::Entry(v) => (1, v, 0, 0),
+            Site::Half(h) => (2, h, 0, 0),
+            Site::Edge(k) => (3, k, 0, 0),
+            Site::Face(k) => (4, k, 0, 0),
+            Site::Unplaced(v, _) => (1, v, 0, 0),
+            Site::Edges(k, l) => (3, k, 3, l),
+            Site::EdgeEntry(k, v) => (3, k, 1, v),
+            Site::HalfEntry(h, v) => (2, h, 1, v),
+            Site::FaceEntry(k, v) => (4, k, 1, v),
+        };
+        let (axis, cause) = match self.site {
+            Site::Unplaced(_, fault) => (fault.axis.number(), fault.cause.number()),
+            _ => (0, 0),
+        };
+        FaultNumbers {
+            rule: self.rule,
+            clause: self.clause,
+            kind,
+            index,
+            other_kind,
+            other_index,
+            axis,
+            cause,
+        }
+    }
 }
 
 /// The kinds of record.

@@ -3,7 +3,7 @@ ghost use mathlib.Core.Logic.{_↔_};
 ghost use mathlib.Core.Path.{_≡_};
 ghost use lib.ListN.{take};
 ghost use Rattle.std.specs.declared.result.Result.the-variants.{Ok};
-ghost use Rattle.links.specs.Kept.{Kept, emptied, shapeAfter, wordsAfter};
+ghost use Rattle.links.specs.Kept.{shapeAfter, wordsAfter};
 ghost use Rattle.links.specs.Shelf.{answer, Fits-shelf, spotAt};
 ghost use Rattle.links.specs.Verdict.{told};
 use crate::draft::Draft;
@@ -12,8 +12,8 @@ use entry::HasPosition;
 use links::CheckFault;
 use links::Shape;
 use links::check;
-use links::copy_places;
-use links::first_entries;
+use links::settle_tables;
+use links::shape_after;
 
 impl<'a> Draft<'a> {
     /// Judges the draft with a shelf: `Ok` exactly if they are sound, else the first clause that fails.
@@ -22,50 +22,6 @@ impl<'a> Draft<'a> {
         ensures law { λ r. ⌜ ((r ≡ Ok tt) ↔ Fits-shelf (Scalar·GridScalar .reading) across along (now (now (self .entry) .words)) (now (self .entry) .shape) (now (shelf .entry)) count) ⌝ }
     {
         check(self.words, self.shape, shelf, count)
-    }
-}
-
-/// The shape of an empty map over the same tables.
-fn empty_shape(s: Shape) -> Shape
-    ensures { λ r. ⌜ r ≡ emptied s ⌝ }
-{
-    Shape {
-        n: 0,
-        e: 0,
-        f: 1,
-        entries: s.entries,
-        edges: s.edges,
-        faces: s.faces,
-    }
-}
-
-/// The shape that settle leaves.
-fn shape_after(verdict: Result<(), CheckFault>, s: Shape) -> Shape
-    ensures { λ r. ⌜ r ≡ shapeAfter verdict s ⌝ }
-{
-    match verdict {
-        Ok(()) => s,
-        Err(_) => empty_shape(s),
-    }
-}
-
-/// Judges tables with a shelf, and writes the shelf's places beside the links where they are accepted.
-fn settle_words<E: HasPosition>(
-    words: &mut [u32],
-    shape: Shape,
-    shelf: &[E],
-    count: usize,
-) -> Result<(), CheckFault>
-    ensures outcome { λ r. ⌜ r ≡ told (answer (Scalar·GridScalar .reading) across along (now (words .entry)) shape (now (shelf .entry)) count) ⌝ }
-    ensures words { λ r. ⌜ now (words .exit) ≡ wordsAfter r (now (words .entry)) (spotAt (Scalar·GridScalar .reading) across along (take (shape .n) (now (shelf .entry)))) (shape .n) ⌝ }
-    ensures sound { λ r. ⌜ ∥ Kept (now (words .exit)) (shapeAfter r shape) ∥₁ ⌝ }
-{
-    match check(words, shape, shelf, count) {
-        Ok(()) => {
-            copy_places(words, first_entries(shelf, shape.n as usize));
-            Ok(())
-        }
-        Err(fault) => Err(fault),
     }
 }
 
@@ -82,7 +38,7 @@ impl<'a> Draft<'a> {
         ensures shape { λ r. ⌜ r .shape ≡ shapeAfter (now (out .exit)) (self .entry .shape) ⌝ }
     {
         let Draft { words, shape } = self;
-        let verdict = settle_words(words, shape, shelf, count);
+        let verdict = settle_tables(words, shape, shelf, count);
         *out = verdict;
         Map {
             words,

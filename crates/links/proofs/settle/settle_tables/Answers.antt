@@ -3,12 +3,12 @@ use mathlib.Core.List.{List}
 use Prim.Native.Nat.{ℕ, _≤_, min}
 use native.Mathlib.Omega.{arith}
 use lib.ListN.{length, take}
 use Rattle.links.specs.Kept.{Kept, copied}
 use Rattle.links.specs.Law.{Every-place}
 use Rattle.links.specs.Shelf.{spotAt}
 use Rattle.links.proofs.Settling.{kept-copied, kept-empty}
 use Rattle.links.proofs.Spots.{spot-past}
-use Rattle.preset_map.proofs.settling.settle_words.Needs as need
+use Rattle.links.proofs.settle.settle_tables.Needs as need
 
 pub copy-places-requires : need.copy-places-requires
 copy-places-requires g c κs =
