@@ -467,7 +467,7 @@ class Player:
         has_map = self.tables is not None and self.tables.settled
         if command in ("out", "half", "face", "check", "settle") and not has_draft:
             raise Complaint("there is no draft")
-        if command == "reopen" and not has_map:
+        if command in ("reopen", "walk", "hull") and not has_map:
             raise Complaint("there is no map")
         if command == "show" and self.tables is None:
             raise Complaint("there is no map")
@@ -486,6 +486,9 @@ class Player:
             "settle": self.do_settle,
             "reopen": self.do_reopen,
             "show": self.do_show,
+            "walk": self.do_walk,
+            "hull": self.do_hull,
+            "unnamed": self.do_unnamed,
         }
         if command not in commands:
             raise Complaint(f"unknown command '{command}'")
@@ -548,6 +551,12 @@ class Player:
         words.end()
         self.given = given
         self.say(f"count: {given}")
+
+    def do_unnamed(self, words):
+        words.end()
+        counted = self.shelf[:self.count()]
+        number = next((v for v, entry in enumerate(counted) if not entry.named), "none")
+        self.say(f"unnamed: {number}")
 
     def count(self):
         return len(self.shelf) if self.given is None else self.given
@@ -628,6 +637,45 @@ class Player:
             self.say(f"  half {h}: next {next_} prev {prev} face {face} origin {origin}")
         for k in range(t.f):
             self.say(f"  face {k}: adjacent_edge {shown('face', k)[0]}")
+
+
+    # Walks.
+
+    @staticmethod
+    def told(label, start, step):
+        """The halves of a cycle, by the end that the last word names."""
+        met = [] if start == NONE else cycle(start, step)
+        if label == "front":
+            return met
+        if label == "back":
+            return met[::-1]
+        order = []
+        while met:
+            order.append(met.pop(0) if len(order) % 2 == 0 else met.pop())
+        return order
+
+    def way(self, words):
+        word = words.optional()
+        if word not in (None, "back", "both"):
+            raise Complaint(f"'{word}' is no way to walk")
+        words.end()
+        return word or "front"
+
+    def do_walk(self, words):
+        v = words.number("entry number", 32)
+        way = self.way(words)
+        t = self.tables
+        if v >= t.n:
+            self.say(f"walk {v}: refused, fault 9 number {v}")
+            return
+        halves = self.told(way, t.read("out", v)[2], lambda h: t.read("half", h)[1] ^ 1)
+        self.say(f"walk {v}:" + "".join(f" {h}" for h in halves))
+
+    def do_hull(self, words):
+        way = self.way(words)
+        t = self.tables
+        halves = self.told(way, t.read("face", 0)[0], lambda h: t.read("half", h)[0])
+        self.say("hull:" + "".join(f" {h}" for h in halves))
 
 
 def main():

@@ -5,6 +5,7 @@ mod player;
 mod script;
 mod shelf;
 mod tables;
+mod walks;
 
 use player::play;
 use std::io;

@@ -22,6 +22,7 @@ use crate::tables::show;
 use crate::tables::tell_check;
 use crate::tables::tell_settle;
 use crate::tables::write_record;
+use crate::walks::play_walk;
 use entry::Point2;
 use entry::Preset;
 use links::NONE;
@@ -72,7 +73,7 @@ fn play_command<'a, E: Written>(
         "out" | "half" | "face" | "check" | "settle" => return Err(Trouble::Line(
             Complaint::NoDraft,
         )),
-        "reopen" | "show" => return Err(Trouble::Line(Complaint::NoMap)),
+        "reopen" | "show" | "walk" | "hull" => return Err(Trouble::Line(Complaint::NoMap)),
         _ => {}
     }
     if play_shelf(rt, command, words, shelf, count)? {
@@ -142,6 +143,9 @@ fn play_map_line<'a, E: Written>(
     let Some(command) = words.next_word() else {
         return Ok(Turn::Stay);
     };
+    if play_walk(rt, command, &mut words, map)? {
+        return Ok(Turn::Stay);
+    }
     match command {
         "reopen" => {
             words.end()?;

@@ -14,6 +14,7 @@ use plane::contained_in_circumference;
 use plane::incircle;
 use plane::side;
 use plane::side_query;
+use shelf::unnamed;
 use std::fmt;
 use std::io;
 
@@ -135,6 +136,14 @@ fn list<E: Written>(rt: &LibcRuntime, shelf: &[E]) -> io::Result<()> {
     Ok(())
 }
 
+/// `unnamed`: some entry without a name.
+fn tell_unnamed<E: Written>(rt: &LibcRuntime, shelf: &[E], count: usize) -> io::Result<()> {
+    match unnamed(shelf, count) {
+        Some(number) => println!(rt, "unnamed: {number}"),
+        None => println!(rt, "unnamed: none"),
+    }
+}
+
 /// `count C`: the count beside the shelf, for check and settle.
 fn set_count<'a>(
     rt: &LibcRuntime,
@@ -164,6 +173,10 @@ pub fn play_shelf<'a, E: Written>(
         "list" => {
             words.end()?;
             list(rt, shelf.as_slice())?;
+        }
+        "unnamed" => {
+            words.end()?;
+            tell_unnamed(rt, shelf.as_slice(), count.unwrap_or(shelf.len()))?;
         }
         _ => return Ok(false),
     }

@@ -1,0 +1,3 @@
+pub mod Rounds
+pub mod Instances
+pub mod Lookups
