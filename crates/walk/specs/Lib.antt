@@ -1,3 +1,4 @@
 pub mod Walking
+pub mod Handles
 pub mod Starting
 pub mod Theorems

@@ -1,9 +1,14 @@
 //! Walks around an entry and along the hull, from both ends.
+mod handles;
 mod reader;
 mod steps;
 mod theorems;
 mod walking;
 
+pub use handles::from;
+pub use handles::is_outer_edge;
+pub use handles::opposite_vertex;
+pub use handles::to;
 pub use reader::Walk;
 pub use steps::Hull;
 pub use steps::HullStep;

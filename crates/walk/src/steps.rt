@@ -7,7 +7,7 @@ ghost use Rattle.links.specs.Rules.{Sound};
 use preset_map::Map;
 
 /// The other half of the same edge.
-fn rev(h: u32) -> u32
+pub(crate) fn rev(h: u32) -> u32
     ensures { λ r. ⌜ r ≡ other h ⌝ }
 {
     if h % 2 == 0 { h + 1 } else { h - 1 }
@@ -21,7 +21,7 @@ fn next_of(map: &Map<'_>, h: u32) -> u32
 }
 
 /// The `prev` of a half.
-fn prev_of(map: &Map<'_>, h: u32) -> u32
+pub(crate) fn prev_of(map: &Map<'_>, h: u32) -> u32
     ensures { λ r. ⌜ r ≡ mapLinks (now (now (map .entry) .words)) (now (map .entry) .shape) .prev h ⌝ }
 {
     map.half_number(1, h)
@@ -90,4 +90,18 @@ pub(crate) fn adjacent_of(map: &Map<'_>, k: u32) -> u32
     ensures { λ r. ⌜ r ≡ mapLinks (now (now (map .entry) .words)) (now (map .entry) .shape) .adj k ⌝ }
 {
     map.adjacent_edge(k)
+}
+
+/// The face of a half.
+pub(crate) fn face_of(map: &Map<'_>, h: u32) -> u32
+    ensures { λ r. ⌜ r ≡ mapLinks (now (now (map .entry) .words)) (now (map .entry) .shape) .face h ⌝ }
+{
+    map.half_number(2, h)
+}
+
+/// The origin of a half.
+pub(crate) fn origin_of(map: &Map<'_>, h: u32) -> u32
+    ensures { λ r. ⌜ r ≡ mapLinks (now (now (map .entry) .words)) (now (map .entry) .shape) .origin h ⌝ }
+{
+    map.half_number(3, h)
 }

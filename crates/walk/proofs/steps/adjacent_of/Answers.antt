@@ -1,5 +1,5 @@
 use mathlib.Core.Path.{_∙_}
-use Rattle.walk.proofs.Lookups.{adjacent-link}
+use Rattle.preset_map.proofs.Lookups.{adjacent-link}
 use Rattle.walk.proofs.steps.adjacent_of.Needs as need
 
 pub returns : need.returns

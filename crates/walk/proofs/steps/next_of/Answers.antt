@@ -1,5 +1,5 @@
 use mathlib.Core.Path.{_∙_}
-use Rattle.walk.proofs.Lookups.{next-link}
+use Rattle.preset_map.proofs.Lookups.{next-link}
 use Rattle.walk.proofs.steps.next_of.Needs as need
 
 pub returns : need.returns

@@ -1,5 +1,5 @@
 use mathlib.Core.Path.{_∙_}
-use Rattle.walk.proofs.Lookups.{out-link}
+use Rattle.preset_map.proofs.Lookups.{out-link}
 use Rattle.walk.proofs.steps.out_of.Needs as need
 
 pub returns : need.returns

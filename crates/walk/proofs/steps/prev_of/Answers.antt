@@ -1,5 +1,5 @@
 use mathlib.Core.Path.{_∙_}
-use Rattle.walk.proofs.Lookups.{prev-link}
+use Rattle.preset_map.proofs.Lookups.{prev-link}
 use Rattle.walk.proofs.steps.prev_of.Needs as need
 
 pub returns : need.returns
