@@ -6,9 +6,11 @@ mod filling;
 mod map;
 mod reading;
 mod settling;
+mod theorems;
 
 pub use agreeing::Differs;
 pub use comparing::compare_places;
 pub use draft::Draft;
 pub use draft::NoRecord;
 pub use map::Map;
+pub use theorems::writes_update_stands;
