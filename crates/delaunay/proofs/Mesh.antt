@@ -403,16 +403,16 @@ module _ (A : Type 0) (same? : (x y : A) → Dec (x ≡ y)) (Live : A → Type 0
           cut_off = (fl.lab_t, ap lab' fl.next_t ∙ l_ep, ap (λ u. lab' (nx' u)) fl.next_t ∙ ap lab' fl.next_ep ∙ l_tn);
         }
 
-    -- ---- the faces without the apex turn left, if the one that is cut off does
-    module _ (p : ℕ → Pt) (left : (x : A) → Below A Live nx lab M x → pos 0 <ℤ S (p (lab x)) (p (lab (nx x))) (p (lab (nx (nx x)))))
-        (new : pos 0 <ℤ S (p (lab ep)) (p (lab e)) (p (lab tp))) where
-      high : {a a' b b' c c' : ℕ} → a ≡ a' → b ≡ b' → c ≡ c' → pos 0 <ℤ S (p a) (p b) (p c) → pos 0 <ℤ S (p a') (p b') (p c')
-      high x y z h = subst (λ t. pos 0 <ℤ t) (λ i. S (p (x i)) (p (y i)) (p (z i))) h
+    -- ---- the faces without the apex turn left, or are flat, if the one that is cut off does
+    module _ (p : ℕ → Pt) (left : (x : A) → Below A Live nx lab M x → pos 0 ≤ℤ S (p (lab x)) (p (lab (nx x))) (p (lab (nx (nx x)))))
+        (new : pos 0 ≤ℤ S (p (lab ep)) (p (lab e)) (p (lab tp))) where
+      high : {a a' b b' c c' : ℕ} → a ≡ a' → b ≡ b' → c ≡ c' → pos 0 ≤ℤ S (p a) (p b) (p c) → pos 0 ≤ℤ S (p a') (p b') (p c')
+      high x y z h = subst (λ t. pos 0 ≤ℤ t) (λ i. S (p (x i)) (p (y i)) (p (z i))) h
 
       too_high : (n : ℕ) → n ≡ suc M → n ≤ M → ⊥
       too_high n e h = omega arith
 
-      below : (x : A) → Below A Live nx' lab' M x → Which x → pos 0 <ℤ S (p (lab' x)) (p (lab' (nx' x))) (p (lab' (nx' (nx' x))))
+      below : (x : A) → Below A Live nx' lab' M x → Which x → pos 0 ≤ℤ S (p (lab' x)) (p (lab' (nx' x))) (p (lab' (nx' (nx' x))))
       below x b (is_e q) =
           absurd (too_high (lab' (nx' (nx' x))) (ap (λ u. lab' (nx' (nx' u))) q ∙ ap (λ u. lab' (nx' u)) fl.next_e ∙ ap lab' fl.next_tp ∙ l_en ∙ apex) b.third)
       below x b (is_en q) = absurd (too_high (lab' x) (ap lab' q ∙ l_en ∙ apex) b.first)
@@ -420,14 +420,14 @@ module _ (A : Type 0) (same? : (x y : A) → Dec (x ≡ y)) (Live : A → Type 0
       below x b (is_t q) =
           high (sym (ap lab' q ∙ fl.lab_t)) (sym (ap (λ u. lab' (nx' u)) q ∙ ap lab' fl.next_t ∙ l_ep))
           (sym (ap (λ u. lab' (nx' (nx' u))) q ∙ ap (λ u. lab' (nx' u)) fl.next_t ∙ ap lab' fl.next_ep ∙ l_tn))
-          (subst (λ z. pos 0 <ℤ z) (sym (S-cyc (p (lab tp)) (p (lab ep)) (p (lab e)))) new)
+          (subst (λ z. pos 0 ≤ℤ z) (sym (S-cyc (p (lab tp)) (p (lab ep)) (p (lab e)))) new)
       below x b (is_ep q) =
           high (sym (ap lab' q ∙ l_ep)) (sym (ap (λ u. lab' (nx' u)) q ∙ ap lab' fl.next_ep ∙ l_tn))
           (sym (ap (λ u. lab' (nx' (nx' u))) q ∙ ap (λ u. lab' (nx' u)) fl.next_ep ∙ ap lab' fl.next_tn ∙ fl.lab_t)) new
       below x b (is_tn q) =
           high (sym (ap lab' q ∙ l_tn)) (sym (ap (λ u. lab' (nx' u)) q ∙ ap lab' fl.next_tn ∙ fl.lab_t))
           (sym (ap (λ u. lab' (nx' (nx' u))) q ∙ ap (λ u. lab' (nx' u)) fl.next_tn ∙ ap lab' fl.next_t ∙ l_ep))
-          (subst (λ z. pos 0 <ℤ z) (S-cyc (p (lab ep)) (p (lab e)) (p (lab tp))) new)
+          (subst (λ z. pos 0 ≤ℤ z) (S-cyc (p (lab ep)) (p (lab e)) (p (lab tp))) new)
       below x b (is_other n) =
           let n1 = other_nx x b.live n in
           let n2 = other_nx (nx x) (m.stays x b.live) n1 in
@@ -436,43 +436,5 @@ module _ (A : Type 0) (same? : (x y : A) → Dec (x ≡ y)) (Live : A → Type 0
           high (sym (same_lab x n)) (sym x1) (sym x2)
           (left x (record { live = b.live; first = subst (λ k. k ≤ M) (same_lab x n) b.first; second = subst (λ k. k ≤ M) x1 b.second; third = subst (λ k. k ≤ M) x2 b.third }))
 
-      pub stay_left_below : (x : A) → Below A Live nx' lab' M x → pos 0 <ℤ S (p (lab' x)) (p (lab' (nx' x))) (p (lab' (nx' (nx' x))))
+      pub stay_left_below : (x : A) → Below A Live nx' lab' M x → pos 0 ≤ℤ S (p (lab' x)) (p (lab' (nx' x))) (p (lab' (nx' (nx' x))))
       stay_left_below x b = below x b (which x)
-
-    -- ---- which halves have a face without the apex afterwards: those of the one that is cut off, and those that had one
-    low : (n : ℕ) → n ≡ suc M → n ≤ M → ⊥
-    low n e h = omega arith
-
-    pub below_was : (x : A) → Below A Live nx' lab' M x → (x ≡ t) ⊎ ((x ≡ ep) ⊎ ((x ≡ tn) ⊎ Below A Live nx lab M x))
-    below_was x b = go (which x)
-      where
-        go : Which x → (x ≡ t) ⊎ ((x ≡ ep) ⊎ ((x ≡ tn) ⊎ Below A Live nx lab M x))
-        go (is_e q) = absurd (low (lab' (nx' (nx' x))) (ap (λ u. lab' (nx' (nx' u))) q ∙ across_e.apex) b.third)
-        go (is_en q) = absurd (low (lab' x) (ap lab' q ∙ l_en ∙ apex) b.first)
-        go (is_tp q) = absurd (low (lab' (nx' x)) (ap (λ u. lab' (nx' u)) q ∙ ap lab' fl.next_tp ∙ l_en ∙ apex) b.second)
-        go (is_t q) = inl q
-        go (is_ep q) = inr (inl q)
-        go (is_tn q) = inr (inr (inl q))
-        go (is_other n) =
-            let n1 = other_nx x b.live n in
-            let n2 = other_nx (nx x) (m.stays x b.live) n1 in
-            let x1 = ap lab' (same_nx x n) ∙ same_lab (nx x) n1 in
-            let x2 = ap (λ u. lab' (nx' u)) (same_nx x n) ∙ ap lab' (same_nx (nx x) n1) ∙ same_lab (nx (nx x)) n2 in
-            inr (inr (inr (record { live = b.live; first = subst (λ k. k ≤ M) (same_lab x n) b.first; second = subst (λ k. k ≤ M) x1 b.second; third = subst (λ k. k ≤ M) x2 b.third })))
-
-    pub below_stays : (x : A) → Below A Live nx lab M x → Below A Live nx' lab' M x
-    below_stays x b = go (which x)
-      where
-        go : Which x → Below A Live nx' lab' M x
-        go (is_e q) = absurd (low (lab (nx x)) (ap (λ u. lab (nx u)) q ∙ apex) b.second)
-        go (is_en q) = absurd (low (lab x) (ap lab q ∙ apex) b.first)
-        go (is_ep q) = absurd (low (lab (nx (nx x))) (ap (λ u. lab (nx (nx u))) q ∙ ap (λ u. lab (nx u)) (m.three e le) ∙ apex) b.third)
-        go (is_t q) = absurd (low (lab x) (ap lab q ∙ from ∙ apex) b.first)
-        go (is_tn q) = absurd (low (lab (nx (nx x))) (ap (λ u. lab (nx (nx u))) q ∙ ap lab (m.three t lt) ∙ from ∙ apex) b.third)
-        go (is_tp q) = absurd (low (lab (nx x)) (ap (λ u. lab (nx u)) q ∙ ap lab (m.three t lt) ∙ from ∙ apex) b.second)
-        go (is_other n) =
-            let n1 = other_nx x b.live n in
-            let n2 = other_nx (nx x) (m.stays x b.live) n1 in
-            let x1 = ap lab' (same_nx x n) ∙ same_lab (nx x) n1 in
-            let x2 = ap (λ u. lab' (nx' u)) (same_nx x n) ∙ ap lab' (same_nx (nx x) n1) ∙ same_lab (nx (nx x)) n2 in
-            record { live = b.live; first = subst (λ k. k ≤ M) (sym (same_lab x n)) b.first; second = subst (λ k. k ≤ M) (sym x1) b.second; third = subst (λ k. k ≤ M) (sym x2) b.third }

@@ -1,6 +1,7 @@
 -- The scan of the hull: what is across from the apex turns right.
 use Rattle.std.proofs.Common.{◌≡◌, ℕ, suc, ◌<◌, ◌≤◌, Bool, true, ◌≢◌, ◌⊎◌, pos, ◌≤ℤ◌, ◌<ℤ◌, sym, refl, ap, ◌∙◌, subst, inl, inr, arith}
 use native.Mathlib.Decide.{ℕ_discrete}
+use Rattle.zring.proofs.Signs.{weaken}
 use Rattle.plane.specs.Plane.{Pt, S}
 use Rattle.delaunay.specs.Ring.{Cyc, Next}
 use Rattle.delaunay.specs.Mesh.{Mesh, Flipped, Across}
@@ -121,7 +122,7 @@ module _ (live : ℕ → Bool) (nx tw lab : ℕ → ℕ) (p : ℕ → Pt) (m j :
     leads = sc.goes ∙ st.leads;
     only = only;
     left = stay_left_below ℕ ℕ_discrete Live nx tw lab (suc (suc m)) (λ a b. edge a b ≡ true) g nx' lab' e le lt from to fl m apex p st.left
-        (subst (λ u. pos 0 <ℤ S (p (lab (nx (nx e)))) (p (lab e)) (p u)) (sym st.leads) turn);
+        (weaken (pos 0) (S (p (lab (nx (nx e)))) (p (lab e)) (p (lab (nx (nx (tw e)))))) (subst (λ u. pos 0 <ℤ S (p (lab (nx (nx e)))) (p (lab e)) (p u)) (sym st.leads) turn));
     right = right;
   }
 

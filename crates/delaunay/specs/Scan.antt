@@ -11,7 +11,7 @@ use Rattle.delaunay.specs.Start.{in_star, number}
 -- up to the number j, two that follow each other turn right
 pub record Done (A : Type 0) (Live : A → Type 0) (nx : A → A) (lab : A → ℕ) (p : ℕ → Pt) (m j : ℕ) : Type 0 where
   pub only : (h g : A) → Across A Live nx lab m h → Across A Live nx lab m g → lab (nx h) ≡ lab (nx g) → h ≡ g
-  pub left : (h : A) → Below A Live nx lab m h → pos 0 <ℤ S (p (lab h)) (p (lab (nx h))) (p (lab (nx (nx h))))
+  pub left : (h : A) → Below A Live nx lab m h → pos 0 ≤ℤ S (p (lab h)) (p (lab (nx h))) (p (lab (nx (nx h))))
   pub right : (h g : A) → Across A Live nx lab m h → Across A Live nx lab m g → lab (nx h) ≡ lab g → lab (nx g) ≤ j → S (p (lab h)) (p (lab g)) (p (lab (nx g))) ≤ℤ pos 0
 
 -- so but for the last one, top, which leads to j
@@ -19,7 +19,7 @@ pub record Stacked (A : Type 0) (Live : A → Type 0) (nx : A → A) (lab : A �
   pub across : Across A Live nx lab m top
   pub leads : lab (nx top) ≡ j
   pub only : (h g : A) → Across A Live nx lab m h → Across A Live nx lab m g → lab (nx h) ≡ lab (nx g) → h ≡ g
-  pub left : (h : A) → Below A Live nx lab m h → pos 0 <ℤ S (p (lab h)) (p (lab (nx h))) (p (lab (nx (nx h))))
+  pub left : (h : A) → Below A Live nx lab m h → pos 0 ≤ℤ S (p (lab h)) (p (lab (nx h))) (p (lab (nx (nx h))))
   pub right : (h g : A) → Across A Live nx lab m h → Across A Live nx lab m g → lab (nx h) ≡ lab g → lab (nx g) ≤ j → g ≢ top → S (p (lab h)) (p (lab g)) (p (lab (nx g))) ≤ℤ pos 0
 
 -- the next one is put on top

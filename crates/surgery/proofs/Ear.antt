@@ -56,10 +56,10 @@ ear L L' V E F E' F' e t i o p n new A W = record {
       (λ x l. (x, (l, sym (A.origin_else x l), here _ x))));
   adj_face = A.adj_face;
   turn = turn';
-  sides = by_new (λ h. L'.face h ≢ 0 → L'.face h ≢ L'.face (rev h))
-      (λ _ q. old_face i A.li (sym A.face_t ∙ ap L'.face (sym A.et) ∙ sym q ∙ A.face_e))
-      (λ _ q. old_face i A.li (sym A.face_t ∙ q ∙ ap L'.face A.te ∙ A.face_e))
-      sides';
+  sides = λ g h lg ng. by_new (λ h. L'.face h ≢ L'.face (rev h))
+      (λ q. old_face i A.li (sym A.face_t ∙ ap L'.face (sym A.et) ∙ sym q ∙ A.face_e))
+      (λ q. old_face i A.li (sym A.face_t ∙ q ∙ ap L'.face A.te ∙ A.face_e))
+      sides' h;
   ends = by_new (λ h. L'.origin h ≢ L'.origin (rev h))
       (λ q. A.wide (sym A.origin_t ∙ ap L'.origin (sym A.et) ∙ sym q ∙ A.origin_e))
       (λ q. A.wide (sym A.origin_t ∙ q ∙ ap L'.origin A.te ∙ A.origin_e))
@@ -151,15 +151,15 @@ ear L L' V E F E' F' e t i o p n new A W = record {
     no_fold : rev i ≢ o
     no_fold q = A.wide (sym (ap L.origin (sym A.at_o) ∙ W.to_next o lo ∙ ap (λ z. L.origin (rev z)) (sym q) ∙ ap L.origin (rev_rev i)))
 
-    sides' : (x : ℕ) → E (x / 2) → L'.face x ≢ 0 → L'.face x ≢ L'.face (rev x)
-    sides' x l nz =
+    sides' : (x : ℕ) → E (x / 2) → L'.face x ≢ L'.face (rev x)
+    sides' x l =
         at (λ x. L'.face x ≢ L'.face (rev x)) i x l (λ q. old_face _ (rev_live E i A.li) (sym (A.face_else _ (rev_live E i A.li) (rev_other i) no_fold) ∙ sym q ∙ A.face_i))
         (λ a. at (λ x. L'.face x ≢ L'.face (rev x)) o x l (λ q. old_face _ (rev_live E o lo) (sym (A.face_else _ (rev_live E o lo) (λ r. no_fold (sym (rev_is o i r))) (rev_other o)) ∙ sym q ∙ A.face_o))
         (λ b. elim (cases_eq (rev x) i) [
           | inl r ↦ λ q. old_face x l (sym (A.face_else x l a b) ∙ q ∙ ap L'.face r ∙ A.face_i)
           | inr c ↦ elim (cases_eq (rev x) o) [
             | inl r ↦ λ q. old_face x l (sym (A.face_else x l a b) ∙ q ∙ ap L'.face r ∙ A.face_o)
-            | inr d ↦ λ q. W.sides x l (λ z. nz (A.face_else x l a b ∙ z)) (sym (A.face_else x l a b) ∙ q ∙ A.face_else _ (rev_live E x l) c d)
+            | inr d ↦ λ q. W.sides _ x (W.face_live i A.li) A.inner l (sym (A.face_else x l a b) ∙ q ∙ A.face_else _ (rev_live E x l) c d)
           ]
         ]))
 

@@ -55,14 +55,14 @@ cut L L' V E F V' E' F' v hole star spoke C W = record {
       (λ h k lh lk e. W.spin h k lh.0 lk.0 e);
   adj_face = C.adj_face;
   turn = turn';
-  sides = λ h l ng. elim (tell (star (L.face h))) [
+  sides = λ g h lg ng l. elim (tell (star (L.face h))) [
     | inl a ↦ elim (tell (star (L.face (rev h)))) [
-      | inl b ↦ λ q. C.walls h (λ z. ng (C.face_star h l a ∙ z)) l a b
+      | inl b ↦ λ q. C.walls g h lg ng l a b
       | inr b ↦ λ q. hole_apart (rev h) (rev_live E' h l) b (sym q ∙ C.face_star h l a)
     ]
     | inr a ↦ elim (tell (star (L.face (rev h)))) [
       | inl b ↦ λ q. hole_apart h l a (q ∙ C.face_star (rev h) (rev_live E' h l) b)
-      | inr b ↦ λ q. W.sides h (old h l) (λ z. ng (C.face_else h l a ∙ z)) (sym (C.face_else h l a) ∙ q ∙ C.face_else (rev h) (rev_live E' h l) b)
+      | inr b ↦ λ q. W.sides (C.before g lg ng).0 h (C.before g lg ng).1.0 (C.before g lg ng).1.1 (old h l) (sym (C.face_else h l a) ∙ q ∙ C.face_else (rev h) (rev_live E' h l) b)
     ]
   ];
   ends = λ h l q. W.ends h (old h l) (sym (C.origins h l) ∙ q ∙ C.origins _ (rev_live E' h l));

@@ -150,7 +150,7 @@ keeps L L' V E F e t en ep tn tp W Q G = record {
         suc' = λ q. Q.en_tp (sym Q.next_e ∙ q);
       })
       W.turn;
-  sides = sides';
+  sides = λ g h lg ng l. sides' g h lg ng l;
   ends = λ h l. ends' h l;
 }
   where
@@ -233,17 +233,17 @@ keeps L L' V E F e t en ep tn tp W Q G = record {
     other : (x : ℕ) → L'.face x ≢ L'.face (rev x) → (h : ℕ) → rev h ≡ x → L'.face h ≢ L'.face (rev h)
     other x d h r q = d (ap L'.face (sym r) ∙ sym q ∙ ap L'.face (rev_is h x r))
 
-    sides' : (h : ℕ) → E (h / 2) → L'.face h ≢ 0 → L'.face h ≢ L'.face (rev h)
-    sides' h l ng =
-        cases_to (λ z. L'.face z ≢ 0 → E (z / 2) → L'.face z ≢ L'.face (rev z)) ep h (λ _ _. side_ep)
-        (λ a. cases_to (λ z. z ≢ ep → L'.face z ≢ 0 → E (z / 2) → L'.face z ≢ L'.face (rev z)) tp h (λ _ _ _. side_tp)
-        (λ b a' nz lh. elim (cases_eq (rev h) ep) [
+    sides' : (g h : ℕ) → F g → g ≢ 0 → E (h / 2) → L'.face h ≢ L'.face (rev h)
+    sides' g h lg ng l =
+        cases_to (λ z. E (z / 2) → L'.face z ≢ L'.face (rev z)) ep h (λ _. side_ep)
+        (λ a. cases_to (λ z. z ≢ ep → E (z / 2) → L'.face z ≢ L'.face (rev z)) tp h (λ _ _. side_tp)
+        (λ b a' lh. elim (cases_eq (rev h) ep) [
           | inl r ↦ other ep side_ep h r
           | inr c ↦ elim (cases_eq (rev h) tp) [
             | inl r ↦ other tp side_tp h r
-            | inr d ↦ λ q. W.sides h lh (λ z. nz (G.face_else h a' b ∙ z)) (sym (G.face_else h a' b) ∙ q ∙ G.face_else (rev h) c d)
+            | inr d ↦ λ q. W.sides g h lg ng lh (sym (G.face_else h a' b) ∙ q ∙ G.face_else (rev h) c d)
           ]
-        ]) a) ng l
+        ]) a) l
 
     ends' : (h : ℕ) → E (h / 2) → L'.origin h ≢ L'.origin (rev h)
     ends' h l =

@@ -5,11 +5,9 @@ pub mod Roots
 pub mod Flip
 pub mod Keeps
 pub mod Renaming
-pub mod Renumbering
 pub mod MoveEdge
 pub mod MoveOne
-pub mod Sweeping
-pub mod Counting
+pub mod Cleanup
 pub mod Hole
 pub mod Ear
 pub mod FanStep

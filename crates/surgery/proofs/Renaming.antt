@@ -31,8 +31,8 @@ renamed L L' V E F V' E' F' pv qv ph qh pf qf R W = record {
       (λ x l. one _ _ _ (R.nexts x l))
       (λ h l. (qh h, (H.back h l, face_of_half h l, same _ _ _ (sym (H.there_back h l)))))
       (λ h l. (qh h, (H.back h l, face_of_half h l, same _ _ _ (H.there_back h l))));
-  sides = via (λ h. L'.face h ≢ 0 → L'.face h ≢ L'.face (rev h))
-      (λ x l ng q. W.sides x l (λ z. R.inner _ (subst F' (sym (R.sides x l)) (R.faces.there _ (W.face_live x l))) ng (ap qf (R.sides x l) ∙ R.faces.back_there _ (W.face_live x l) ∙ z)) (sym (R.faces.back_there _ (W.face_live x l)) ∙ ap qf (sym (R.sides x l) ∙ q ∙ ap L'.face (R.revs x l) ∙ R.sides _ (rev_live E x l)) ∙ R.faces.back_there _ (W.face_live _ (rev_live E x l))));
+  sides = λ g h lg ng. via (λ h. L'.face h ≢ L'.face (rev h))
+      (λ x l q. W.sides (qf g) x (R.faces.back g lg) (R.inner g lg ng) l (sym (R.faces.back_there _ (W.face_live x l)) ∙ ap qf (sym (R.sides x l) ∙ q ∙ ap L'.face (R.revs x l) ∙ R.sides _ (rev_live E x l)) ∙ R.faces.back_there _ (W.face_live _ (rev_live E x l)))) h;
   ends = via (λ h. L'.origin h ≢ L'.origin (rev h))
       (λ x l q. W.ends x l (sym (R.entries.back_there _ (W.origin_live x l)) ∙ ap qv (sym (R.origins x l) ∙ q ∙ to' x l) ∙ R.entries.back_there _ (W.origin_live _ (rev_live E x l))));
 }

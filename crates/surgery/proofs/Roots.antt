@@ -24,7 +24,7 @@ pub record Unrooted (L : Links) (V E F : ℕ → Type 0) : Type 0 where
   pub spin : Conn (ccw L) L.origin (Half E)
   pub adj_face : (g : ℕ) → F g → L.face (L.adj g) ≡ g
   pub turn : Conn L.next L.face (Half E)
-  pub sides : (h : ℕ) → E (h / 2) → L.face h ≢ 0 → L.face h ≢ L.face (rev h)
+  pub sides : (g h : ℕ) → F g → g ≢ 0 → E (h / 2) → L.face h ≢ L.face (rev h)
   pub ends : (h : ℕ) → E (h / 2) → L.origin h ≢ to L h
 
 pub root : (L : Links) (V E F : ℕ → Type 0) → Unrooted L V E F → Linked L V E F

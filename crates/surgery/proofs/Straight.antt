@@ -50,7 +50,7 @@ straight L L' V E F V' E' v e1 t1 e2 r2 a y A Y S W = record {
   turn = carry L.next L.face L'.next L'.face k (λ x. x) (Half E) (Half E') W.turn W.next_live turns
       (λ h l. (h, (old h l, sym (S.faces h l), same _ _ _ (sym (k_else h (S.half h l).1 (S.half h l).2)))))
       (λ h l. (h, (old h l, sym (S.faces h l), same _ _ _ (k_else h (S.half h l).1 (S.half h l).2))));
-  sides = λ h l ng q. W.sides h (old h l) (λ z. ng (S.faces h l ∙ z)) (sym (S.faces h l) ∙ q ∙ S.faces _ (rev_stays h l));
+  sides = λ g h lg ng l q. W.sides g h lg ng (old h l) (sym (S.faces h l) ∙ q ∙ S.faces _ (rev_stays h l));
   ends = λ h l. cases_to (λ h. E' (h / 2) → L'.origin h ≢ L'.origin (rev h)) e1 h
       (λ _ q. S.apart (sym (S.origin_else t1 lt1' t1_e1) ∙ ap L'.origin (sym S.et1) ∙ sym q ∙ S.origin_e1))
       (λ n1. cases_to (λ h. h ≢ e1 → E' (h / 2) → L'.origin h ≢ L'.origin (rev h)) t1 h

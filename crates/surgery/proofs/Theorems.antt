@@ -39,19 +39,19 @@ pub flips : Flips
 flips L V E F = flip_linked L (On V) (On E) (On F)
 
 pub cuts : Cuts
-cuts L L'' V E F V' E' F' m v hole star spoke low c J =
-    root L'' (On V') (On E') (On F') (cut L L'' (On V) (On E) (On F) (On V') (On E') (On F') v hole star spoke c (unroot L (On V) (On E) (On F) m low J))
+cuts L L' V E F V' E' F' m v hole star spoke low c J =
+    root L' (On V') (On E') (On F') (cut L L' (On V) (On E) (On F) (On V') (On E') (On F') v hole star spoke c (unroot L (On V) (On E) (On F) m low J))
 
 pub fan_steps : FanSteps
 fan_steps L V E F m i low dead dead_f li inner wide J = root _ _ _ _ (fan_step L (On V) (On E) (On F) i dead dead_f li inner wide (unroot L (On V) (On E) (On F) m low J))
 
 pub straightens : Straightens
-straightens L L'' V E F V' E' m v e1 t1 e2 r2 a y A Y low s J =
-    root L'' (On V') (On E') (On F) (straight L L'' (On V) (On E) (On F) (On V') (On E') v e1 t1 e2 r2 a y A Y s (unroot L (On V) (On E) (On F) m low J))
+straightens L L' V E F V' E' m v e1 t1 e2 r2 a y A Y low s J =
+    root L' (On V') (On E') (On F) (straight L L' (On V) (On E) (On F) (On V') (On E') v e1 t1 e2 r2 a y A Y s (unroot L (On V) (On E) (On F) m low J))
 
 pub renumbers : Renumbers
-renumbers L L'' V E F V' E' F' m pv qv ph qh pf qf low r J =
-    root L'' (On V') (On E') (On F') (renamed L L'' (On V) (On E) (On F) (On V') (On E') (On F') pv qv ph qh pf qf r (unroot L (On V) (On E) (On F) m low J))
+renumbers L L' V E F V' E' F' m pv qv ph qh pf qf low r J =
+    root L' (On V') (On E') (On F') (renamed L L' (On V) (On E) (On F) (On V') (On E') (On F') pv qv ph qh pf qf r (unroot L (On V) (On E) (On F) m low J))
 
 pub moves_edge : MovesEdge
 moves_edge L V E F m d low J lm dead = root _ _ _ _ (moved_edge L (On V) (On E) (On F) m d lm dead (unroot L (On V) (On E) (On F) (suc m) (λ k l. omega (arith, low k l)) J))
@@ -85,7 +85,7 @@ all_live m two r w p = record {
   around = λ v h lv lh e. ((w.around v lv).1 h (in_halves h m.e lh) e).1;
   adj_face = λ g l. b.adj_at g l two;
   along = λ g h lg lh e. ((w.along g lg).1 h (in_halves h m.e lh) e).1;
-  sides = λ h l ng. parted_halves m p (let k = a.face_names h (in_halves h m.e l) in omega arith) h (in_halves h m.e l);
+  sides = λ g h lg n l. parted_halves m p (omega arith) h (in_halves h m.e l);
   ends = λ h l. b.ends h (in_halves h m.e l);
 }
   where
@@ -112,10 +112,17 @@ all_live_back m two small j = (
     along = λ g l. ((λ _. j.adj_face g l), λ h b e. (there (m.adj g) (j.adj_live g l), j.along g h l (in_edges h m.e b) e));
     ended = λ k l e. j.ends (2 * k) (in_edges (2 * k) m.e (omega arith)) (e ∙ ap m.origin (sym (rev_even k)));
   },
+  (λ k l f1 e. j.sides 1 (2 * k) f1 (λ z. absurd (no_one z)) (in_edges (2 * k) m.e (omega arith)) (e ∙ ap m.face (sym (rev_even k)))),
 )
   where
     there : (h : ℕ) → h / 2 < m.e → h ≢ none
     there h l = omega arith
+
+    one : ℕ
+    one = 1
+
+    no_one : one ≡ 0 → ⊥
+    no_one e = omega arith
 
 pub live_linked : LiveLinked
 live_linked L V E F j = record {

@@ -37,5 +37,6 @@ pub record Cut (L L' : Links) (V E F V' E' F' : ℕ → Type 0) (v hole : ℕ) (
   pub out_origin : (p : ℕ) → V' p → L'.origin (L'.out p) ≡ p
   pub adj_live : (g : ℕ) → F' g → E' (L'.adj g / 2)
   pub adj_face : (g : ℕ) → F' g → L'.face (L'.adj g) ≡ g
-  -- where the hole is an inner face, no edge has both its halves in it
-  pub walls : (h : ℕ) → hole ≢ 0 → E' (h / 2) → star (L.face h) ≡ true → star (L.face (rev h)) ≢ true
+  pub before : (g : ℕ) → F' g → g ≢ 0 → (i : ℕ) × (F i × (i ≢ 0))
+  -- where an inner face is left, no edge has both its halves in the hole
+  pub walls : (g h : ℕ) → F' g → g ≢ 0 → E' (h / 2) → star (L.face h) ≡ true → star (L.face (rev h)) ≢ true

@@ -23,7 +23,7 @@ pub record Linked (L : Links) (V E F : ℕ → Type 0) : Type 0 where
   pub around : (v h : ℕ) → V v → E (h / 2) → L.origin h ≡ v → Reached (ccw L) (L.out v) h
   pub adj_face : (g : ℕ) → F g → L.face (L.adj g) ≡ g
   pub along : (g h : ℕ) → F g → E (h / 2) → L.face h ≡ g → Reached L.next (L.adj g) h
-  -- 4.5 an edge's halves do not lie in one inner face
-  pub sides : (h : ℕ) → E (h / 2) → L.face h ≢ 0 → L.face h ≢ L.face (rev h)
+  -- 4.5 where there is an inner face, an edge's halves lie in different faces
+  pub sides : (g h : ℕ) → F g → g ≢ 0 → E (h / 2) → L.face h ≢ L.face (rev h)
   -- 4.6 an edge's ends differ
   pub ends : (h : ℕ) → E (h / 2) → L.origin h ≢ to L h

@@ -43,8 +43,8 @@ Flips =
 -- an entry is cut out, inside, on the hull or at the end of a line
 abbrev pub Cuts : Type 0
 Cuts =
-    (L L'' : Links) (V E F V' E' F' : ℕ → Bool) (m v hole : ℕ) (star : ℕ → Bool) (spoke : ℕ → ℕ) → Below E m
-    → Cut L L'' (On V) (On E) (On F) (On V') (On E') (On F') v hole star spoke → Linked L (On V) (On E) (On F) → Linked L'' (On V') (On E') (On F')
+    (L L' : Links) (V E F V' E' F' : ℕ → Bool) (m v hole : ℕ) (star : ℕ → Bool) (spoke : ℕ → ℕ) → Below E m
+    → Cut L L' (On V) (On E) (On F) (On V') (On E') (On F') v hole star spoke → Linked L (On V) (On E) (On F) → Linked L' (On V') (On E') (On F')
 
 -- two halves of an inner face are cut off by a new edge
 abbrev pub FanSteps : Type 0
@@ -55,14 +55,14 @@ FanSteps =
 -- an entry in the middle of a line goes
 abbrev pub Straightens : Type 0
 Straightens =
-    (L L'' : Links) (V E F V' E' : ℕ → Bool) (m v e1 t1 e2 r2 a y A Y : ℕ) → Below E m → Straight L L'' (On V) (On E) (On F) (On V') (On E') v e1 t1 e2 r2 a y A Y
-    → Linked L (On V) (On E) (On F) → Linked L'' (On V') (On E') (On F)
+    (L L' : Links) (V E F V' E' : ℕ → Bool) (m v e1 t1 e2 r2 a y A Y : ℕ) → Below E m → Straight L L' (On V) (On E) (On F) (On V') (On E') v e1 t1 e2 r2 a y A Y
+    → Linked L (On V) (On E) (On F) → Linked L' (On V') (On E') (On F)
 
 -- records get new numbers
 abbrev pub Renumbers : Type 0
 Renumbers =
-    (L L'' : Links) (V E F V' E' F' : ℕ → Bool) (m : ℕ) (pv qv ph qh pf qf : ℕ → ℕ) → Below E m
-    → Renamed L L'' (On V) (On E) (On F) (On V') (On E') (On F') pv qv ph qh pf qf → Linked L (On V) (On E) (On F) → Linked L'' (On V') (On E') (On F')
+    (L L' : Links) (V E F V' E' F' : ℕ → Bool) (m : ℕ) (pv qv ph qh pf qf : ℕ → ℕ) → Below E m
+    → Renamed L L' (On V) (On E) (On F) (On V') (On E') (On F') pv qv ph qh pf qf → Linked L (On V) (On E) (On F) → Linked L' (On V') (On E') (On F')
 
 -- the last edge takes the number of a dead one
 abbrev pub MovesEdge : Type 0
@@ -92,7 +92,7 @@ AllLive = (m : Links) → 2 ≤ m.n → InRange m → Woven m → ((k : ℕ) →
 
 -- and back, where there are not too many edges
 abbrev pub AllLiveBack : Type 0
-AllLiveBack = (m : Links) → 2 ≤ m.n → m.e ≤ 12288 → AllLinked m → InRange m × Woven m
+AllLiveBack = (m : Links) → 2 ≤ m.n → m.e ≤ 12288 → AllLinked m → InRange m × Woven m × ((k : ℕ) → k < m.e → Parted m k)
 
 -- the link rules over live records are those that new numbers carry over
 abbrev pub LiveLinked : Type 0
