@@ -1,4 +1,6 @@
 //! Legal edges make empty faces: the two holes of an erased entry, flips and their measure. Each function's contract is a theorem.
+#![tactic(auto)]
+
 ghost use Rattle.delaunay.specs.Erased.{InnerStar, InnerOthers, HullChain, HullOthers, ErasedInside, ErasedHull, BorderLegal};
 ghost use Rattle.delaunay.specs.Legal.{LegalIsEmpty, SoundIsLegal};
 ghost use Rattle.delaunay.specs.Start.{RingStart, EarStep, RingEnd, ScanStep, StarIsMesh};

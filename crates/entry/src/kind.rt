@@ -26,9 +26,9 @@ pub trait HasPosition {
 
 /// An entry that may have a name.
 pub trait Entry: HasPosition {
-    ghost isNamed: { Self → Bool };
+    ghost is_named: { Self → Bool };
 
     /// Whether the entry has a name.
     fn is_named(&self) -> bool
-        ensures { result ≡ isNamed self.now };
+        ensures { result ≡ is_named self.now };
 }

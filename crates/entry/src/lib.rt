@@ -1,4 +1,6 @@
 //! What an entry of a shelf means: a place of the grid, or why it has none.
+#![tactic(auto)]
+
 pub mod fault;
 pub mod kind;
 pub mod name;

@@ -26,7 +26,7 @@ impl HasPosition for Point2 {
 }
 
 impl Entry for Point2 {
-    ghost isNamed = { λ _. false };
+    ghost is_named = { λ _. false };
 
     fn is_named(&self) -> bool {
         false

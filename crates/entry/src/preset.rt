@@ -50,7 +50,7 @@ impl HasPosition for Preset {
 }
 
 impl Entry for Preset {
-    ghost isNamed = { λ p. not (p.name == 0) };
+    ghost is_named = { λ p. not (p.name == 0) };
 
     fn is_named(&self) -> bool {
         self.name != 0

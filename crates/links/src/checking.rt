@@ -16,7 +16,7 @@ use entry::{HasPosition, place};
 /// An entry has a place.
 fn place_at<E: HasPosition>(entries: &[E], v: u32) -> Result<(), CheckFault>
     requires { v < length entries.now }
-    ensures { result ≡ told (unplaced v (spot_at Scalar-as-GridScalar.reading across along entries.now v)) }
+    ensures { result ≡ told (unplaced v (spot_at E.Scalar.reading E.across E.along entries.now v)) }
 {
     match place(&entries[v as usize]) {
         Ok(_) => Ok(()),
@@ -31,7 +31,7 @@ fn place_at<E: HasPosition>(entries: &[E], v: u32) -> Result<(), CheckFault>
 /// Every entry has a place.
 fn rule_2<E: HasPosition>(entries: &[E]) -> Result<(), CheckFault>
     requires { length entries.now < 2 ^ 32 }
-    ensures { result ≡ told (rule2 (length entries.now) (spot_at Scalar-as-GridScalar.reading across along entries.now)) }
+    ensures { result ≡ told (rule2 (length entries.now) (spot_at E.Scalar.reading E.across E.along entries.now)) }
 {
     for v in 0..entries.len() as u32 {
         place_at(entries, v)?;
@@ -41,10 +41,10 @@ fn rule_2<E: HasPosition>(entries: &[E]) -> Result<(), CheckFault>
 
 /// The rules of links and places.
 fn check_links<E: HasPosition>(t: Tables<'_>, entries: &[E]) -> Result<(), CheckFault>
-    requires placed { EveryPlace (length entries.now) (spot_at Scalar-as-GridScalar.reading across along entries.now) }
+    requires placed { EveryPlace (length entries.now) (spot_at E.Scalar.reading E.across E.along entries.now) }
     requires counts { length entries.now ≡ t.shape.n }
     requires sized { (t.shape.n ≤ 4096) × ((t.shape.e ≤ 12288) × (t.shape.f ≤ 8192)) }
-    ensures { result ≡ told (link_rules (seen Scalar-as-GridScalar.reading across along t.entry.words.now t.entry.shape entries.now)) }
+    ensures { result ≡ told (link_rules (seen E.Scalar.reading E.across E.along t.entry.words.now t.entry.shape entries.now)) }
 {
     rule_3(t)?;
     rule_4(t)?;
@@ -60,7 +60,7 @@ fn check_entries<E: HasPosition>(
     requires holds { size shape ≤ length words.now }
     requires counts { length entries.now ≡ shape.n }
     requires sized { (shape.n ≤ 4096) × ((shape.e ≤ 12288) × (shape.f ≤ 8192)) }
-    ensures { result ≡ told (option_or (rule2 (length entries.now) (spot_at Scalar-as-GridScalar.reading across along entries.now)) (link_rules (seen Scalar-as-GridScalar.reading across along words.now shape entries.now))) }
+    ensures { result ≡ told (option_or (rule2 (length entries.now) (spot_at E.Scalar.reading E.across E.along entries.now)) (link_rules (seen E.Scalar.reading E.across E.along words.now shape entries.now))) }
 {
     rule_2(entries)?;
     let t = Tables::new(words, shape);
@@ -83,7 +83,7 @@ fn judge<E: HasPosition>(
     shelf: &[E],
     count: usize,
 ) -> Result<(), CheckFault>
-    ensures { result ≡ told (answer Scalar-as-GridScalar.reading across along words.now shape shelf.now count) }
+    ensures { result ≡ told (answer E.Scalar.reading E.across E.along words.now shape shelf.now count) }
 {
     rule_1(words, shape, count.min(shelf.len()))?;
     check_entries(words, shape, first_entries(shelf, shape.n as usize))
@@ -96,8 +96,8 @@ pub fn check<E: HasPosition>(
     shelf: &[E],
     count: usize,
 ) -> Result<(), CheckFault>
-    ensures outcome { result ≡ told (answer Scalar-as-GridScalar.reading across along words.now shape shelf.now count) }
-    ensures law { (result ≡ Ok tt) ↔ FitsShelf Scalar-as-GridScalar.reading across along words.now shape shelf.now count }
+    ensures outcome { result ≡ told (answer E.Scalar.reading E.across E.along words.now shape shelf.now count) }
+    ensures law { (result ≡ Ok tt) ↔ FitsShelf E.Scalar.reading E.across E.along words.now shape shelf.now count }
 {
     judge(words, shape, shelf, count)
 }

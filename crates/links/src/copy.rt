@@ -9,9 +9,9 @@ use entry::HasPosition;
 
 /// Writes the place of each entry into its record.
 pub fn copy_places<E: HasPosition>(words: &mut [u32], entries: &[E])
-    requires placed { EveryPlace (length entries.now) (spot_at Scalar-as-GridScalar.reading across along entries.now) }
+    requires placed { EveryPlace (length entries.now) (spot_at E.Scalar.reading E.across E.along entries.now) }
     requires few { (length entries.now ≤ 4096) × (3 * length entries.now ≤ length words.old) }
-    ensures { words.new ≡ copied words.old (spot_at Scalar-as-GridScalar.reading across along entries.now) (length entries.now) }
+    ensures { words.new ≡ copied words.old (spot_at E.Scalar.reading E.across E.along entries.now) (length entries.now) }
 {
     for v in 0..entries.len() as u32 {
         let p = spot(entries, v);

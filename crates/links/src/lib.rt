@@ -1,4 +1,6 @@
 //! Link tables in lent memory, the eight rules, and the check.
+#![tactic(auto)]
+
 mod checking;
 mod clause;
 mod copy;

@@ -17,8 +17,8 @@ use plane::side;
 
 /// Whether an inner face is a triangle that turns left.
 fn is_turned<E: HasPosition>(t: Tables<'_>, entries: &[E], k: u32) -> bool
-    requires { EveryPlace (length entries.now) (spot_at Scalar-as-GridScalar.reading across along entries.now) }
-    ensures { result ≡ turned (seen Scalar-as-GridScalar.reading across along t.entry.words.now t.entry.shape entries.now) k }
+    requires { EveryPlace (length entries.now) (spot_at E.Scalar.reading E.across E.along entries.now) }
+    ensures { result ≡ turned (seen E.Scalar.reading E.across E.along t.entry.words.now t.entry.shape entries.now) k }
 {
     if k == 0 {
         return true;
@@ -34,9 +34,9 @@ fn is_turned<E: HasPosition>(t: Tables<'_>, entries: &[E], k: u32) -> bool
 
 /// Whether an edge's ends have different places.
 fn is_apart<E: HasPosition>(t: Tables<'_>, entries: &[E], k: u32) -> bool
-    requires placed { EveryPlace (length entries.now) (spot_at Scalar-as-GridScalar.reading across along entries.now) }
+    requires placed { EveryPlace (length entries.now) (spot_at E.Scalar.reading E.across E.along entries.now) }
     requires few { k < 2 ^ 31 }
-    ensures { result ≡ apart (seen Scalar-as-GridScalar.reading across along t.entry.words.now t.entry.shape entries.now) k }
+    ensures { result ≡ apart (seen E.Scalar.reading E.across E.along t.entry.words.now t.entry.shape entries.now) k }
 {
     let a = spot(entries, t.origin(2 * k));
     let b = spot(entries, t.origin(2 * k + 1));
@@ -70,9 +70,9 @@ fn first_twin(t: Tables<'_>, k: u32) -> Option<u32>
 
 /// The lowest entry that lies on an edge's segment and is no end of it.
 fn first_on<E: HasPosition>(t: Tables<'_>, entries: &[E], k: u32) -> Option<u32>
-    requires placed { EveryPlace (length entries.now) (spot_at Scalar-as-GridScalar.reading across along entries.now) }
+    requires placed { EveryPlace (length entries.now) (spot_at E.Scalar.reading E.across E.along entries.now) }
     requires few { (k < 2 ^ 31) × (length entries.now < 2 ^ 32) }
-    ensures { result ≡ failing (length entries.now) (clear (seen Scalar-as-GridScalar.reading across along t.entry.words.now t.entry.shape entries.now) k) }
+    ensures { result ≡ failing (length entries.now) (clear (seen E.Scalar.reading E.across E.along t.entry.words.now t.entry.shape entries.now) k) }
 {
     let from = t.origin(2 * k);
     let to = t.origin(2 * k + 1);
@@ -83,9 +83,9 @@ fn first_on<E: HasPosition>(t: Tables<'_>, entries: &[E], k: u32) -> Option<u32>
 
 /// The lowest entry strictly left of a half, if that is in face 0.
 fn first_left<E: HasPosition>(t: Tables<'_>, entries: &[E], h: u32) -> Option<u32>
-    requires placed { EveryPlace (length entries.now) (spot_at Scalar-as-GridScalar.reading across along entries.now) }
+    requires placed { EveryPlace (length entries.now) (spot_at E.Scalar.reading E.across E.along entries.now) }
     requires few { length entries.now < 2 ^ 32 }
-    ensures { result ≡ failing (length entries.now) (hulled (seen Scalar-as-GridScalar.reading across along t.entry.words.now t.entry.shape entries.now) h) }
+    ensures { result ≡ failing (length entries.now) (hulled (seen E.Scalar.reading E.across E.along t.entry.words.now t.entry.shape entries.now) h) }
 {
     if t.face(h) != 0 {
         return None;
@@ -97,9 +97,9 @@ fn first_left<E: HasPosition>(t: Tables<'_>, entries: &[E], h: u32) -> Option<u3
 
 /// The lowest entry strictly inside the circle of a face, if that is an inner one.
 fn first_inside<E: HasPosition>(t: Tables<'_>, entries: &[E], k: u32) -> Option<u32>
-    requires placed { EveryPlace (length entries.now) (spot_at Scalar-as-GridScalar.reading across along entries.now) }
+    requires placed { EveryPlace (length entries.now) (spot_at E.Scalar.reading E.across E.along entries.now) }
     requires few { length entries.now < 2 ^ 32 }
-    ensures { result ≡ failing (length entries.now) (empty (seen Scalar-as-GridScalar.reading across along t.entry.words.now t.entry.shape entries.now) k) }
+    ensures { result ≡ failing (length entries.now) (empty (seen E.Scalar.reading E.across E.along t.entry.words.now t.entry.shape entries.now) k) }
 {
     if k == 0 {
         return None;
@@ -118,10 +118,10 @@ trait PlaceClause<E: HasPosition> {
     ghost test: { Links → ℕ → Bool };
 
     fn holds(&self, t: Tables<'_>, entries: &[E], i: u32) -> bool
-        requires placed { EveryPlace (length entries.now) (spot_at Scalar-as-GridScalar.reading across along entries.now) }
+        requires placed { EveryPlace (length entries.now) (spot_at E.Scalar.reading E.across E.along entries.now) }
         requires counts { length entries.now ≡ t.shape.n }
         requires sized { (t.shape.n ≤ 4096) × ((t.shape.e ≤ 12288) × (i < 2 ^ 31)) }
-        ensures { result ≡ test (seen Scalar-as-GridScalar.reading across along t.entry.words.now t.entry.shape entries.now) i };
+        ensures { result ≡ test (seen E.Scalar.reading E.across E.along t.entry.words.now t.entry.shape entries.now) i };
 }
 
 /// Every inner face is a triangle that turns left.
@@ -156,10 +156,10 @@ fn try_places<E: HasPosition, C: PlaceClause<E>>(
     rule: u8,
     number: u8,
 ) -> Result<(), CheckFault>
-    requires placed { EveryPlace (length entries.now) (spot_at Scalar-as-GridScalar.reading across along entries.now) }
+    requires placed { EveryPlace (length entries.now) (spot_at E.Scalar.reading E.across E.along entries.now) }
     requires counts { length entries.now ≡ t.shape.n }
     requires sized { (t.shape.n ≤ 4096) × ((t.shape.e ≤ 12288) × (count ≤ 24576)) }
-    ensures { result ≡ told (each rule number (site_of kind) count (test (seen Scalar-as-GridScalar.reading across along t.entry.words.now t.entry.shape entries.now))) }
+    ensures { result ≡ told (each rule number (site_of kind) count (C.test (seen E.Scalar.reading E.across E.along t.entry.words.now t.entry.shape entries.now))) }
 {
     for i in 0..count {
         if !clause.holds(t, entries, i) {
@@ -180,10 +180,10 @@ trait PairClause<E: HasPosition> {
     ghost many: { Links → ℕ };
 
     fn first(&self, t: Tables<'_>, entries: &[E], i: u32) -> Option<u32>
-        requires placed { EveryPlace (length entries.now) (spot_at Scalar-as-GridScalar.reading across along entries.now) }
+        requires placed { EveryPlace (length entries.now) (spot_at E.Scalar.reading E.across E.along entries.now) }
         requires counts { length entries.now ≡ t.shape.n }
         requires sized { (t.shape.n ≤ 4096) × ((t.shape.e ≤ 12288) × (i < 2 ^ 31)) }
-        ensures { result ≡ failing (many (seen Scalar-as-GridScalar.reading across along t.entry.words.now t.entry.shape entries.now)) (test (seen Scalar-as-GridScalar.reading across along t.entry.words.now t.entry.shape entries.now) i) };
+        ensures { result ≡ failing (many (seen E.Scalar.reading E.across E.along t.entry.words.now t.entry.shape entries.now)) (test (seen E.Scalar.reading E.across E.along t.entry.words.now t.entry.shape entries.now) i) };
 }
 
 /// No two edges share both ends.
@@ -248,10 +248,10 @@ fn try_pairs<E: HasPosition, C: PairClause<E>>(
     rule: u8,
     number: u8,
 ) -> Result<(), CheckFault>
-    requires placed { EveryPlace (length entries.now) (spot_at Scalar-as-GridScalar.reading across along entries.now) }
+    requires placed { EveryPlace (length entries.now) (spot_at E.Scalar.reading E.across E.along entries.now) }
     requires counts { length entries.now ≡ t.shape.n }
     requires sized { (t.shape.n ≤ 4096) × ((t.shape.e ≤ 12288) × (count ≤ 24576)) }
-    ensures { result ≡ told (pairs rule number (pair_of pair) count (many (seen Scalar-as-GridScalar.reading across along t.entry.words.now t.entry.shape entries.now)) (test (seen Scalar-as-GridScalar.reading across along t.entry.words.now t.entry.shape entries.now))) }
+    ensures { result ≡ told (pairs rule number (pair_of pair) count (C.many (seen E.Scalar.reading E.across E.along t.entry.words.now t.entry.shape entries.now)) (C.test (seen E.Scalar.reading E.across E.along t.entry.words.now t.entry.shape entries.now))) }
 {
     for i in 0..count {
         match clause.first(t, entries, i) {
@@ -270,50 +270,50 @@ fn try_pairs<E: HasPosition, C: PairClause<E>>(
 
 /// Inner faces are triangles that turn left.
 fn rule_5<E: HasPosition>(t: Tables<'_>, entries: &[E]) -> Result<(), CheckFault>
-    requires placed { EveryPlace (length entries.now) (spot_at Scalar-as-GridScalar.reading across along entries.now) }
+    requires placed { EveryPlace (length entries.now) (spot_at E.Scalar.reading E.across E.along entries.now) }
     requires counts { length entries.now ≡ t.shape.n }
     requires sized { (t.shape.n ≤ 4096) × ((t.shape.e ≤ 12288) × (t.shape.f ≤ 8192)) }
-    ensures { result ≡ told (rule5 (seen Scalar-as-GridScalar.reading across along t.entry.words.now t.entry.shape entries.now)) }
+    ensures { result ≡ told (rule5 (seen E.Scalar.reading E.across E.along t.entry.words.now t.entry.shape entries.now)) }
 {
     try_places(&Turned, t, entries, Kind::Face, t.shape().f, 5, 1)
 }
 
 /// An edge's ends have different places.
 fn try_apart<E: HasPosition>(t: Tables<'_>, entries: &[E]) -> Result<(), CheckFault>
-    requires placed { EveryPlace (length entries.now) (spot_at Scalar-as-GridScalar.reading across along entries.now) }
+    requires placed { EveryPlace (length entries.now) (spot_at E.Scalar.reading E.across E.along entries.now) }
     requires counts { length entries.now ≡ t.shape.n }
     requires sized { (t.shape.n ≤ 4096) × ((t.shape.e ≤ 12288) × (t.shape.f ≤ 8192)) }
-    ensures { result ≡ told (each 6 1 Edge t.entry.shape.e (apart (seen Scalar-as-GridScalar.reading across along t.entry.words.now t.entry.shape entries.now))) }
+    ensures { result ≡ told (each 6 1 Edge t.entry.shape.e (apart (seen E.Scalar.reading E.across E.along t.entry.words.now t.entry.shape entries.now))) }
 {
     try_places(&Apart, t, entries, Kind::Edge, t.shape().e, 6, 1)
 }
 
 /// No two edges share both ends.
 fn try_twins<E: HasPosition>(t: Tables<'_>, entries: &[E]) -> Result<(), CheckFault>
-    requires placed { EveryPlace (length entries.now) (spot_at Scalar-as-GridScalar.reading across along entries.now) }
+    requires placed { EveryPlace (length entries.now) (spot_at E.Scalar.reading E.across E.along entries.now) }
     requires counts { length entries.now ≡ t.shape.n }
     requires sized { (t.shape.n ≤ 4096) × ((t.shape.e ≤ 12288) × (t.shape.f ≤ 8192)) }
-    ensures { result ≡ told (pairs 6 2 Edges t.entry.shape.e t.entry.shape.e (single (seen Scalar-as-GridScalar.reading across along t.entry.words.now t.entry.shape entries.now))) }
+    ensures { result ≡ told (pairs 6 2 Edges t.entry.shape.e t.entry.shape.e (single (seen E.Scalar.reading E.across E.along t.entry.words.now t.entry.shape entries.now))) }
 {
     try_pairs(&Twins, t, entries, Pair::EdgeEdge, t.shape().e, 6, 2)
 }
 
 /// No entry lies on an edge's segment unless it is an end of it.
 fn try_segments<E: HasPosition>(t: Tables<'_>, entries: &[E]) -> Result<(), CheckFault>
-    requires placed { EveryPlace (length entries.now) (spot_at Scalar-as-GridScalar.reading across along entries.now) }
+    requires placed { EveryPlace (length entries.now) (spot_at E.Scalar.reading E.across E.along entries.now) }
     requires counts { length entries.now ≡ t.shape.n }
     requires sized { (t.shape.n ≤ 4096) × ((t.shape.e ≤ 12288) × (t.shape.f ≤ 8192)) }
-    ensures { result ≡ told (pairs 6 3 EdgeEntry t.entry.shape.e t.entry.shape.n (clear (seen Scalar-as-GridScalar.reading across along t.entry.words.now t.entry.shape entries.now))) }
+    ensures { result ≡ told (pairs 6 3 EdgeEntry t.entry.shape.e t.entry.shape.n (clear (seen E.Scalar.reading E.across E.along t.entry.words.now t.entry.shape entries.now))) }
 {
     try_pairs(&OnSegment, t, entries, Pair::EdgeEntry, t.shape().e, 6, 3)
 }
 
 /// Edges join different places, once, with no entry between.
 fn rule_6<E: HasPosition>(t: Tables<'_>, entries: &[E]) -> Result<(), CheckFault>
-    requires placed { EveryPlace (length entries.now) (spot_at Scalar-as-GridScalar.reading across along entries.now) }
+    requires placed { EveryPlace (length entries.now) (spot_at E.Scalar.reading E.across E.along entries.now) }
     requires counts { length entries.now ≡ t.shape.n }
     requires sized { (t.shape.n ≤ 4096) × ((t.shape.e ≤ 12288) × (t.shape.f ≤ 8192)) }
-    ensures { result ≡ told (rule6 (seen Scalar-as-GridScalar.reading across along t.entry.words.now t.entry.shape entries.now)) }
+    ensures { result ≡ told (rule6 (seen E.Scalar.reading E.across E.along t.entry.words.now t.entry.shape entries.now)) }
 {
     try_apart(t, entries)?;
     try_twins(t, entries)?;
@@ -322,30 +322,30 @@ fn rule_6<E: HasPosition>(t: Tables<'_>, entries: &[E]) -> Result<(), CheckFault
 
 /// No entry is outside the hull.
 fn rule_7<E: HasPosition>(t: Tables<'_>, entries: &[E]) -> Result<(), CheckFault>
-    requires placed { EveryPlace (length entries.now) (spot_at Scalar-as-GridScalar.reading across along entries.now) }
+    requires placed { EveryPlace (length entries.now) (spot_at E.Scalar.reading E.across E.along entries.now) }
     requires counts { length entries.now ≡ t.shape.n }
     requires sized { (t.shape.n ≤ 4096) × ((t.shape.e ≤ 12288) × (t.shape.f ≤ 8192)) }
-    ensures { result ≡ told (rule7 (seen Scalar-as-GridScalar.reading across along t.entry.words.now t.entry.shape entries.now)) }
+    ensures { result ≡ told (rule7 (seen E.Scalar.reading E.across E.along t.entry.words.now t.entry.shape entries.now)) }
 {
     try_pairs(&OffHull, t, entries, Pair::HalfEntry, 2 * t.shape().e, 7, 1)
 }
 
 /// No entry is inside the circle of a face.
 fn rule_8<E: HasPosition>(t: Tables<'_>, entries: &[E]) -> Result<(), CheckFault>
-    requires placed { EveryPlace (length entries.now) (spot_at Scalar-as-GridScalar.reading across along entries.now) }
+    requires placed { EveryPlace (length entries.now) (spot_at E.Scalar.reading E.across E.along entries.now) }
     requires counts { length entries.now ≡ t.shape.n }
     requires sized { (t.shape.n ≤ 4096) × ((t.shape.e ≤ 12288) × (t.shape.f ≤ 8192)) }
-    ensures { result ≡ told (rule8 (seen Scalar-as-GridScalar.reading across along t.entry.words.now t.entry.shape entries.now)) }
+    ensures { result ≡ told (rule8 (seen E.Scalar.reading E.across E.along t.entry.words.now t.entry.shape entries.now)) }
 {
     try_pairs(&InCircle, t, entries, Pair::FaceEntry, t.shape().f, 8, 1)
 }
 
 /// The rules on places, in order.
 pub fn rules_5_to_8<E: HasPosition>(t: Tables<'_>, entries: &[E]) -> Result<(), CheckFault>
-    requires placed { EveryPlace (length entries.now) (spot_at Scalar-as-GridScalar.reading across along entries.now) }
+    requires placed { EveryPlace (length entries.now) (spot_at E.Scalar.reading E.across E.along entries.now) }
     requires counts { length entries.now ≡ t.shape.n }
     requires sized { (t.shape.n ≤ 4096) × ((t.shape.e ≤ 12288) × (t.shape.f ≤ 8192)) }
-    ensures { result ≡ told (place_rules (seen Scalar-as-GridScalar.reading across along t.entry.words.now t.entry.shape entries.now)) }
+    ensures { result ≡ told (place_rules (seen E.Scalar.reading E.across E.along t.entry.words.now t.entry.shape entries.now)) }
 {
     rule_5(t, entries)?;
     rule_6(t, entries)?;

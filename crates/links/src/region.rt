@@ -12,8 +12,8 @@ use plane::{Place, incircle, is_on_segment, side};
 
 /// The place of entry v; past the end (0, 0).
 pub fn spot<E: HasPosition>(entries: &[E], v: u32) -> Place
-    requires { EveryPlace (length entries.now) (spot_at Scalar-as-GridScalar.reading across along entries.now) }
-    ensures { point result ≡ point_at Scalar-as-GridScalar.reading across along entries.now v }
+    requires { EveryPlace (length entries.now) (spot_at E.Scalar.reading E.across E.along entries.now) }
+    ensures { point result ≡ point_at E.Scalar.reading E.across E.along entries.now v }
 {
     if v as usize >= entries.len() {
         return Place::ORIGIN;
@@ -79,9 +79,9 @@ impl Region for Segment {
 
 /// The lowest entry that a region is not clear of.
 pub fn first_within<E: HasPosition, R: Region>(region: &R, entries: &[E]) -> Option<u32>
-    requires placed { EveryPlace (length entries.now) (spot_at Scalar-as-GridScalar.reading across along entries.now) }
+    requires placed { EveryPlace (length entries.now) (spot_at E.Scalar.reading E.across E.along entries.now) }
     requires few { length entries.now < 2 ^ 32 }
-    ensures { result ≡ failing (length entries.now) (λ v. clear region.now v (point_at Scalar-as-GridScalar.reading across along entries.now v)) }
+    ensures { result ≡ failing (length entries.now) (λ v. R.clear region.now v (point_at E.Scalar.reading E.across E.along entries.now v)) }
 {
     let count = entries.len() as u32;
     for v in 0..count {

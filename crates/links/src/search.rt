@@ -10,7 +10,7 @@ use crate::tables::Tables;
 /// The lowest number below `count` at which the clause fails.
 fn first_failing<C: Clause>(clause: &C, t: Tables<'_>, count: u32) -> Option<u32>
     requires { count ≤ 2 ^ 31 }
-    ensures { result ≡ failing count (test (held t.entry.words.now t.entry.shape)) }
+    ensures { result ≡ failing count (C.test (held t.entry.words.now t.entry.shape)) }
 {
     for i in 0..count {
         if !clause.holds(t, i) {
@@ -30,7 +30,7 @@ pub fn try_each<C: Clause>(
     number: u8,
 ) -> Result<(), CheckFault>
     requires { count ≤ 2 ^ 31 }
-    ensures { result ≡ told (each rule number (site_of kind) count (test (held t.entry.words.now t.entry.shape))) }
+    ensures { result ≡ told (each rule number (site_of kind) count (C.test (held t.entry.words.now t.entry.shape))) }
 {
     match first_failing(clause, t, count) {
         None => Ok(()),

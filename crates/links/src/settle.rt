@@ -41,8 +41,8 @@ pub fn settle_tables<E: HasPosition>(
     shelf: &[E],
     count: usize,
 ) -> Result<(), CheckFault>
-    ensures outcome { result ≡ told (answer Scalar-as-GridScalar.reading across along words.old shape shelf.now count) }
-    ensures words { words.new ≡ words_after_check result words.old (spot_at Scalar-as-GridScalar.reading across along (take shape.n shelf.now)) shape.n }
+    ensures outcome { result ≡ told (answer E.Scalar.reading E.across E.along words.old shape shelf.now count) }
+    ensures words { words.new ≡ words_after_check result words.old (spot_at E.Scalar.reading E.across E.along (take shape.n shelf.now)) shape.n }
     ensures sound { ∥ Kept words.new (shape_after_check result shape) ∥₁ }
 {
     match check(words, shape, shelf, count) {

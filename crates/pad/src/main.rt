@@ -1,4 +1,6 @@
 // Plays a script on a preset pad: one command a line, answered on standard output.
+#![tactic(auto)]
+
 mod complaint;
 mod kind;
 mod player;

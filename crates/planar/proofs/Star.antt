@@ -17,7 +17,7 @@ use Rattle.links.proofs.Halves.{rev_rev, rev_below}
 use Rattle.links.proofs.Walks.{walk_add}
 use Rattle.planar.specs.Order.{Two, Ccw3}
 use Rattle.planar.specs.Planarity.{Sector}
-use Rattle.planar.specs.Star.{spoke, tip, Ring, Inner, Ordered, Surrounded, Fan, Fans}
+use Rattle.planar.specs.Star.{spoke, tip, Ring, Inner, Ordered, Surrounded, Fan, Fans, Wedge}
 use Rattle.planar.proofs.Terms.{S-last, S-back}
 use Rattle.planar.proofs.Order.{sign, ccw3_skip, ccw3_rest}
 use Rattle.planar.proofs.Turning.{surround, from_first, from_later, between}

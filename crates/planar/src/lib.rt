@@ -1,4 +1,6 @@
 //! What follows from the rules of a map: edges do not cross, and how the halves stand around an entry. Each function's contract is a theorem.
+#![tactic(auto)]
+
 ghost use Rattle.planar.specs.Planarity.{Planar};
 ghost use Rattle.planar.specs.Star.{PlacesDiffer, SpokesDiffer, OneOuter, Rings, Borders, Soon, ThreeHalves, StarFaces, CornersDiffer, ThreeSpokes, Ordered, Surrounded, Fans, OneLine, TwoSpokes, EndsDiffer, OnePath, JoinedLine};
 ghost use Rattle.planar.specs.Convex.{StarEmpty, ConvexInside, ConvexHull, Weighs, Strict};

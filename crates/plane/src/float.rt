@@ -1,6 +1,6 @@
 // A float against zero, by the whole number that it is.
 ghost use Rattle.std.specs.Prelude.{◌≡◌, ◌^◌, ◌≤◌, ℤ, pos, neg_ℤ, ◌==◌, int_le, int_lt, unsigned_abs};
-ghost use Rattle.plane.specs.Value.{Value};
+ghost use Rattle.plane.specs.Value.{Value, below_zero, equals_zero};
 
 // Up to 2 ^ 53 either way nothing is lost.
 pub(crate) fn exact(z: i64) -> f64
@@ -17,7 +17,8 @@ pub(crate) fn positive(x: f64) -> bool
 }
 
 pub(crate) fn negative(x: f64) -> bool
-    ensures { (z : ℤ) → Value x z → result ≡ int_lt z (pos 0) }
+    ensures value { (z : ℤ) → Value x z → result ≡ int_lt z (pos 0) }
+    ensures test { result ≡ below_zero x }
 {
     x < 0.0
 }
@@ -35,7 +36,8 @@ pub(crate) fn at_most_zero(x: f64) -> bool
 }
 
 pub(crate) fn zero(x: f64) -> bool
-    ensures { (z : ℤ) → Value x z → result ≡ (unsigned_abs z == 0) }
+    ensures value { (z : ℤ) → Value x z → result ≡ (unsigned_abs z == 0) }
+    ensures test { result ≡ equals_zero x }
 {
     x == 0.0
 }

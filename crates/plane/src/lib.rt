@@ -1,4 +1,6 @@
 // Places of the pad, the side of a line and the inside of a circle, in exact whole numbers.
+#![tactic(auto)]
+
 mod float;
 mod line_side_info;
 mod math;

@@ -1,6 +1,7 @@
 // On which side of a directed line a place lies.
 ghost use Rattle.std.specs.Prelude.{◌≡◌, ◌^◌, ◌≤◌, ℤ, pos, neg_ℤ, ◌==◌, int_le, int_lt, unsigned_abs};
-ghost use Rattle.plane.specs.Holds.{Holds, alike};
+ghost use Rattle.plane.specs.Holds.{Holds, alike, same_side};
+ghost use Rattle.plane.specs.Value.{below_zero, equals_zero};
 ghost use Rattle.std.specs.Cmp.Rules.{comparing};
 ghost use Rattle.std.proofs.Common.{rules};
 
@@ -30,7 +31,8 @@ impl LineSideInfo {
 
     // Strictly right of the line.
     pub fn is_on_right_side(&self) -> bool
-        ensures { (z : ℤ) → Holds self.now z → result ≡ int_lt z (pos 0) }
+        ensures value { (z : ℤ) → Holds self.now z → result ≡ int_lt z (pos 0) }
+        ensures test { result ≡ below_zero self.now.signed_side }
     {
         negative(self.signed_side)
     }
@@ -48,7 +50,8 @@ impl LineSideInfo {
     }
 
     pub fn is_on_line(self) -> bool
-        ensures { (z : ℤ) → Holds self z → result ≡ (unsigned_abs z == 0) }
+        ensures value { (z : ℤ) → Holds self z → result ≡ (unsigned_abs z == 0) }
+        ensures test { result ≡ equals_zero self.signed_side }
     {
         zero(self.signed_side)
     }
@@ -65,15 +68,18 @@ impl LineSideInfo {
 
 // Both on the line, or both strictly on one side of it.
 impl PartialEq for LineSideInfo {
-    ghost equals = { λ a b r. (y z : ℤ) → Holds a y → Holds b z → r ≡ alike y z };
+    ghost eq = { same_side };
 
-    ghost laws = { Prim.search (comparing, rules) };
-
-    fn eq(&self, other: &LineSideInfo) -> bool {
+    fn eq(&self, other: &LineSideInfo) -> bool
+        ensures test { result ≡ same_side self.now other.now }
+        ensures value { (y z : ℤ) → Holds self.now y → Holds other.now z → result ≡ alike y z }
+    {
         if self.is_on_line() || other.is_on_line() {
             self.is_on_line() && other.is_on_line()
         } else {
             self.is_on_right_side() == other.is_on_right_side()
         }
     }
+
+    ghost laws = { Prim.search (comparing, rules) };
 }

@@ -28,7 +28,7 @@ fn y_of(map: &Map<'_>, v: u32) -> u32
 /// Whether an entry is at the place of entry v.
 fn is_at<E: HasPosition>(map: &Map<'_>, v: u32, entry: &E) -> bool
     requires { v < map.now.shape.n }
-    ensures { result ≡ is_same_spot (spot_of Scalar-as-GridScalar.reading (across entry.now) (along entry.now)) ((map_links map.now.words.now map.now.shape).x v) ((map_links map.now.words.now map.now.shape).y v) }
+    ensures { result ≡ is_same_spot (spot_of E.Scalar.reading (E.across entry.now) (E.along entry.now)) ((map_links map.now.words.now map.now.shape).x v) ((map_links map.now.words.now map.now.shape).y v) }
 {
     match place(entry) {
         Ok(spot) => spot.x() as u32 == x_of(map, v) && spot.y() as u32 == y_of(map, v),
@@ -42,7 +42,7 @@ pub fn compare_places<E: HasPosition>(
     shelf: &[E],
     count: usize,
 ) -> Result<(), Differs>
-    ensures { result ≡ agreement (map_links map.now.words.now map.now.shape) (spot_at Scalar-as-GridScalar.reading across along shelf.now) (min count (length shelf.now)) }
+    ensures { result ≡ agreement (map_links map.now.words.now map.now.shape) (spot_at E.Scalar.reading E.across E.along shelf.now) (min count (length shelf.now)) }
 {
     let counted = count.min(shelf.len());
     let n = map.shape().n;

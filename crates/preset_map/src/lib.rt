@@ -1,4 +1,6 @@
 //! Drafts and maps: link tables in lent memory, written freely as a draft, sound as a map.
+#![tactic(auto)]
+
 mod agreeing;
 mod comparing;
 mod draft;

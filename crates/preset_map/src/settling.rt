@@ -12,8 +12,8 @@ use links::{CheckFault, Shape, check, settle_tables, shape_after};
 impl<'a> Draft<'a> {
     /// Judges the draft with a shelf: `Ok` exactly if they are sound, else the first clause that fails.
     pub fn check<E: HasPosition>(&self, shelf: &[E], count: usize) -> Result<(), CheckFault>
-        ensures outcome { result ≡ told (answer Scalar-as-GridScalar.reading across along self.now.words.now self.now.shape shelf.now count) }
-        ensures law { (result ≡ Ok tt) ↔ FitsShelf Scalar-as-GridScalar.reading across along self.now.words.now self.now.shape shelf.now count }
+        ensures outcome { result ≡ told (answer E.Scalar.reading E.across E.along self.now.words.now self.now.shape shelf.now count) }
+        ensures law { (result ≡ Ok tt) ↔ FitsShelf E.Scalar.reading E.across E.along self.now.words.now self.now.shape shelf.now count }
     {
         check(self.words, self.shape, shelf, count)
     }
@@ -27,8 +27,8 @@ impl<'a> Draft<'a> {
         count: usize,
         out: &mut Result<(), CheckFault>,
     ) -> Map<'a>
-        ensures outcome { out.new ≡ told (answer Scalar-as-GridScalar.reading across along self.entry.words.now self.entry.shape shelf.now count) }
-        ensures words { result.words.now ≡ words_after_check out.new self.entry.words.now (spot_at Scalar-as-GridScalar.reading across along (take self.entry.shape.n shelf.now)) self.entry.shape.n }
+        ensures outcome { out.new ≡ told (answer E.Scalar.reading E.across E.along self.entry.words.now self.entry.shape shelf.now count) }
+        ensures words { result.words.now ≡ words_after_check out.new self.entry.words.now (spot_at E.Scalar.reading E.across E.along (take self.entry.shape.n shelf.now)) self.entry.shape.n }
         ensures shape { result.shape ≡ shape_after_check out.new self.entry.shape }
     {
         let Draft { words, shape } = self;

@@ -1,4 +1,6 @@
 //! A shelf: a lent slice of plain copied entries of any one kind, and a count beside it.
+#![tactic(auto)]
+
 ghost use Rattle.std.specs.Prelude.{◌≡◌, ℕ, ◌<◌, ◌≤◌, true, false, length, if◌then◌else◌, MatchOption, nat_lt, slice_index_or, slice_set};
 ghost use Rattle.shelf.specs.Removing.{below, count_after, counted, remaining, removal};
 
@@ -57,7 +59,7 @@ pub fn renew<E: Copy>(shelf: &mut [E], count: usize, k: usize, entry: E) -> Resu
 
 /// Some number of an unnamed entry; none exactly if there is none.
 pub fn unnamed<E: Entry>(shelf: &[E], count: usize) -> Option<usize>
-    ensures { MatchOption result ((k : ℕ) (d : E) → k < counted shelf.now count → isNamed (slice_index_or shelf.now k d) ≡ true) (λ k. (k < counted shelf.now count) × ((d : E) → isNamed (slice_index_or shelf.now k d) ≡ false)) }
+    ensures { MatchOption result ((k : ℕ) (d : E) → k < counted shelf.now count → E.is_named (slice_index_or shelf.now k d) ≡ true) (λ k. (k < counted shelf.now count) × ((d : E) → E.is_named (slice_index_or shelf.now k d) ≡ false)) }
 {
     for k in 0..held(shelf, count) {
         if !shelf[k].is_named() {

@@ -1,4 +1,6 @@
 //! What the link rules survive: flips, cuts, fans, and the removal of dead records. Each function's contract is a theorem.
+#![tactic(auto)]
+
 ghost use Rattle.surgery.specs.Sound.{InnerSpoked, LineLeaf, LineMiddle};
 ghost use Rattle.surgery.specs.Theorems.{Carries, Flips, Cuts, FanSteps, Straightens, Renumbers, MovesEdge, MovesFace, MovesEntry, AllLive, AllLiveBack, LiveLinked};
 

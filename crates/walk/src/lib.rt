@@ -1,4 +1,6 @@
 //! Walks around an entry and along the hull, from both ends.
+#![tactic(auto)]
+
 mod handles;
 mod reader;
 mod steps;

@@ -1,4 +1,6 @@
 // Identities, ranges and signs of integer polynomials. Each function's contract is a theorem; the proofs are for other crates to use.
+#![tactic(auto)]
+
 ghost use Rattle.zring.specs.Statements.{RingLaws, NormalForm, Normaliser, FitsCasts, FitsHeld, InRange, AtCorners, ThreeTerms};
 
 // whole numbers are a ring

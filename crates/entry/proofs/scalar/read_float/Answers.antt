@@ -7,4 +7,4 @@ returns-in-Some c = ends_read c.args.x c.in-Some.cause c.in-Some.ensures
 
 pub returns : goal.returns
 returns c =
-    c.exactly.ensures ∙ between_read c.args.x c.saturating-f64-to-u16.result c.in-default.ensures c.saturating-f64-to-u16.ensures
+    c.exactly.ensures ∙ between_read c.args.x c.saturating_f64_to_u16.result c.in_default.ensures c.saturating_f64_to_u16.ensures

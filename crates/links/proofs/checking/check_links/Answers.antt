@@ -7,10 +7,10 @@ use Rattle.links.specs.Verdict.{told, rule3, rule4, place_rules}
 use Rattle.links.proofs.First.{told_then, told_first}
 use Rattle.links.proofs.checking.check_links.Goals as goal
 
-pub returns-in-err-rule-4 : goal.returns-in-err-rule-4
-returns-in-err-rule-4 g c =
-    let p = err_from_is_err_and c.from-residual-in-err-rule-4.result c.from-residual-in-err-rule-4.ensures.1 in
-    let m : Links = (seen g.Scalar.GridScalar.reading g.E.HasPosition.across g.E.HasPosition.along c.args.t.words.now c.args.t.shape c.args.entries.now) in
+pub returns-in_err-rule_4 : goal.returns-in_err-rule_4
+returns-in_err-rule_4 g c =
+    let p = err_from_is_err_and c.from_residual-in_err-rule_4.result c.from_residual-in_err-rule_4.ensures.1 in
+    let m : Links = (seen g.E.Scalar.GridScalar.reading g.E.HasPosition.across g.E.HasPosition.along c.args.t.words.now c.args.t.shape c.args.entries.now) in
     rw (p.1, p.2)
-    (sym (told_then (rule3 m) (option_or (rule4 m) (place_rules m)) (sym c.rule-3.ensures ∙ c.in-ok-rule-3.was)
-    ∙ told_first (rule4 m) (place_rules m) _ (sym c.rule-4.ensures ∙ c.in-err-rule-4.was)))
+    (sym (told_then (rule3 m) (option_or (rule4 m) (place_rules m)) (sym c.rule_3.ensures ∙ c.in_ok-rule_3.was)
+    ∙ told_first (rule4 m) (place_rules m) _ (sym c.rule_4.ensures ∙ c.in_err-rule_4.was)))

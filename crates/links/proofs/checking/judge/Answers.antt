@@ -8,8 +8,8 @@ use Rattle.links.proofs.checking.judge.Goals as goal
 pub returns : goal.returns
 returns g c =
     let n = c.args.shape.n in
-    let rest = c.first-entries.ensures in
-    c.check-entries.ensures
-    ∙ (λ i. told (option_or (rule2 (rest.len i) (spot_at g.Scalar.GridScalar.reading g.E.HasPosition.across g.E.HasPosition.along (rest.items i))) (link_rules (seen g.Scalar.GridScalar.reading g.E.HasPosition.across g.E.HasPosition.along c.args.words.now c.args.shape (rest.items i)))))
+    let rest = c.first_entries.ensures in
+    c.check_entries.ensures
+    ∙ (λ i. told (option_or (rule2 (rest.len i) (spot_at g.E.Scalar.GridScalar.reading g.E.HasPosition.across g.E.HasPosition.along (rest.items i))) (link_rules (seen g.E.Scalar.GridScalar.reading g.E.HasPosition.across g.E.HasPosition.along c.args.words.now c.args.shape (rest.items i)))))
     ∙ sym (told_then (rule1 c.args.words.now c.args.shape (min c.args.count (length c.args.shelf.now))) _
-    (ap (λ k. told (rule1 c.args.words.now c.args.shape k)) (sym c.min.ensures) ∙ sym c.rule-1.ensures ∙ c.in-ok-rule-1.was))
+    (ap (λ k. told (rule1 c.args.words.now c.args.shape k)) (sym c.min.ensures) ∙ sym c.rule_1.ensures ∙ c.in_ok-rule_1.was))

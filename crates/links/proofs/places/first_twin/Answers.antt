@@ -9,12 +9,12 @@ loop-l-init c = (omega arith, λ i h. single_early (held c.args.t.words.now c.ar
 pub loop-l-preserved : goal.loop-l-preserved
 loop-l-preserved c =
     let later = c.loop-l.invariant.0 in
-    (omega arith, below_more _ _ c.loop-l.invariant.1 (single_now (held c.args.t.words.now c.args.t.shape) c.args.k c.loop-l.l false later (sym c.if-are-twins.ensures)))
+    (omega arith, below_more _ _ c.loop-l.invariant.1 (single_now (held c.args.t.words.now c.args.t.shape) c.args.k c.loop-l.l false later (sym c.if-are_twins.ensures)))
 
-pub returns-then-are-twins : goal.returns-then-are-twins
-returns-then-are-twins c =
+pub returns-then-are_twins : goal.returns-then-are_twins
+returns-then-are_twins c =
     sym (first_failing_is c.args.t.shape.e _ c.loop-l.l (subst (λ s. c.loop-l.l < s.e) c.shape-l-end.ensures c.loop-l-test.true) c.loop-l.invariant.1
-    (single_now (held c.args.t.words.now c.args.t.shape) c.args.k c.loop-l.l true c.loop-l.invariant.0 (sym c.if-are-twins.ensures)))
+    (single_now (held c.args.t.words.now c.args.t.shape) c.args.k c.loop-l.l true c.loop-l.invariant.0 (sym c.if-are_twins.ensures)))
 
 pub returns : goal.returns
 returns c =

@@ -8,7 +8,7 @@ use Rattle.links.proofs.rings.first_broken.Goals as goal
 pub loop-h-init : goal.loop-h-init
 loop-h-init g c =
     let m : Links = held c.args.t.words.now c.args.t.shape in
-    started m (g.R.Ring.step m) (g.R.Ring.owner m) (g.R.Ring.root m) c.args.count c.first-loose-low.result c.first-loose-low.ensures
+    started m (g.R.Ring.step m) (g.R.Ring.owner m) (g.R.Ring.root m) c.args.count c.first_loose-low.result c.first_loose-low.ensures
 
 pub loop-h-preserved : goal.loop-h-preserved
 loop-h-preserved g c =

@@ -1,5 +1,5 @@
 use Rattle.plane.proofs.Floats.{is_negative}
 use Rattle.plane.proofs.float.negative.Goals as goal
 
-pub returns : goal.returns
-returns c = is_negative c.args.x
+pub returns-clause-value : goal.returns-clause-value
+returns-clause-value c = is_negative c.args.x

@@ -35,50 +35,50 @@ ry = Y 2 ⊖ Y 3
 abbrev rz : E
 rz = sq_e rx ry
 
-pub overflow-add-pz : goal.overflow-add-pz
-overflow-add-pz c = let g = c.args in cast_fits w64 16383 (g.ax ∷ g.ay ∷ g.bx ∷ g.by ∷ g.cx ∷ g.cy ∷ g.dx ∷ g.dy ∷ []) pz (omega arith) tt tt
+pub overflow_add-pz : goal.overflow_add-pz
+overflow_add-pz c = let g = c.args in cast_fits w64 16383 (g.ax ∷ g.ay ∷ g.bx ∷ g.by ∷ g.cx ∷ g.cy ∷ g.dx ∷ g.dy ∷ []) pz (omega arith) tt tt
 
-pub overflow-add-qz : goal.overflow-add-qz
-overflow-add-qz c = let g = c.args in cast_fits w64 16383 (g.ax ∷ g.ay ∷ g.bx ∷ g.by ∷ g.cx ∷ g.cy ∷ g.dx ∷ g.dy ∷ []) qz (omega arith) tt tt
+pub overflow_add-qz : goal.overflow_add-qz
+overflow_add-qz c = let g = c.args in cast_fits w64 16383 (g.ax ∷ g.ay ∷ g.bx ∷ g.by ∷ g.cx ∷ g.cy ∷ g.dx ∷ g.dy ∷ []) qz (omega arith) tt tt
 
-pub overflow-add-rz : goal.overflow-add-rz
-overflow-add-rz c = let g = c.args in cast_fits w64 16383 (g.ax ∷ g.ay ∷ g.bx ∷ g.by ∷ g.cx ∷ g.cy ∷ g.dx ∷ g.dy ∷ []) rz (omega arith) tt tt
+pub overflow_add-rz : goal.overflow_add-rz
+overflow_add-rz c = let g = c.args in cast_fits w64 16383 (g.ax ∷ g.ay ∷ g.bx ∷ g.by ∷ g.cx ∷ g.cy ∷ g.dx ∷ g.dy ∷ []) rz (omega arith) tt tt
 
-pub overflow-mul-result : goal.overflow-mul-result
-overflow-mul-result c = let g = c.args in cast_fits w64 16383 (g.ax ∷ g.ay ∷ g.bx ∷ g.by ∷ g.cx ∷ g.cy ∷ g.dx ∷ g.dy ∷ []) (qy ⊛ rz) (omega arith) tt tt
+pub overflow_mul-result : goal.overflow_mul-result
+overflow_mul-result c = let g = c.args in cast_fits w64 16383 (g.ax ∷ g.ay ∷ g.bx ∷ g.by ∷ g.cx ∷ g.cy ∷ g.dx ∷ g.dy ∷ []) (qy ⊛ rz) (omega arith) tt tt
 
-pub overflow-mul-result-2 : goal.overflow-mul-result-2
-overflow-mul-result-2 c = let g = c.args in cast_fits w64 16383 (g.ax ∷ g.ay ∷ g.bx ∷ g.by ∷ g.cx ∷ g.cy ∷ g.dx ∷ g.dy ∷ []) (qz ⊛ ry) (omega arith) tt tt
+pub overflow_mul-result-2 : goal.overflow_mul-result-2
+overflow_mul-result-2 c = let g = c.args in cast_fits w64 16383 (g.ax ∷ g.ay ∷ g.bx ∷ g.by ∷ g.cx ∷ g.cy ∷ g.dx ∷ g.dy ∷ []) (qz ⊛ ry) (omega arith) tt tt
 
-pub overflow-sub-result : goal.overflow-sub-result
-overflow-sub-result c = let g = c.args in cast_fits w64 16383 (g.ax ∷ g.ay ∷ g.bx ∷ g.by ∷ g.cx ∷ g.cy ∷ g.dx ∷ g.dy ∷ []) (qy ⊛ rz ⊖ qz ⊛ ry) (omega arith) tt tt
+pub overflow_sub-result : goal.overflow_sub-result
+overflow_sub-result c = let g = c.args in cast_fits w64 16383 (g.ax ∷ g.ay ∷ g.bx ∷ g.by ∷ g.cx ∷ g.cy ∷ g.dx ∷ g.dy ∷ []) (qy ⊛ rz ⊖ qz ⊛ ry) (omega arith) tt tt
 
-pub overflow-mul-result-3 : goal.overflow-mul-result-3
-overflow-mul-result-3 c = let g = c.args in cast_fits w64 16383 (g.ax ∷ g.ay ∷ g.bx ∷ g.by ∷ g.cx ∷ g.cy ∷ g.dx ∷ g.dy ∷ []) (px ⊛ (qy ⊛ rz ⊖ qz ⊛ ry)) (omega arith) tt tt
+pub overflow_mul-result-3 : goal.overflow_mul-result-3
+overflow_mul-result-3 c = let g = c.args in cast_fits w64 16383 (g.ax ∷ g.ay ∷ g.bx ∷ g.by ∷ g.cx ∷ g.cy ∷ g.dx ∷ g.dy ∷ []) (px ⊛ (qy ⊛ rz ⊖ qz ⊛ ry)) (omega arith) tt tt
 
-pub overflow-mul-result-4 : goal.overflow-mul-result-4
-overflow-mul-result-4 c = let g = c.args in cast_fits w64 16383 (g.ax ∷ g.ay ∷ g.bx ∷ g.by ∷ g.cx ∷ g.cy ∷ g.dx ∷ g.dy ∷ []) (qx ⊛ rz) (omega arith) tt tt
+pub overflow_mul-result-4 : goal.overflow_mul-result-4
+overflow_mul-result-4 c = let g = c.args in cast_fits w64 16383 (g.ax ∷ g.ay ∷ g.bx ∷ g.by ∷ g.cx ∷ g.cy ∷ g.dx ∷ g.dy ∷ []) (qx ⊛ rz) (omega arith) tt tt
 
-pub overflow-mul-result-5 : goal.overflow-mul-result-5
-overflow-mul-result-5 c = let g = c.args in cast_fits w64 16383 (g.ax ∷ g.ay ∷ g.bx ∷ g.by ∷ g.cx ∷ g.cy ∷ g.dx ∷ g.dy ∷ []) (qz ⊛ rx) (omega arith) tt tt
+pub overflow_mul-result-5 : goal.overflow_mul-result-5
+overflow_mul-result-5 c = let g = c.args in cast_fits w64 16383 (g.ax ∷ g.ay ∷ g.bx ∷ g.by ∷ g.cx ∷ g.cy ∷ g.dx ∷ g.dy ∷ []) (qz ⊛ rx) (omega arith) tt tt
 
-pub overflow-sub-result-2 : goal.overflow-sub-result-2
-overflow-sub-result-2 c = let g = c.args in cast_fits w64 16383 (g.ax ∷ g.ay ∷ g.bx ∷ g.by ∷ g.cx ∷ g.cy ∷ g.dx ∷ g.dy ∷ []) (qx ⊛ rz ⊖ qz ⊛ rx) (omega arith) tt tt
+pub overflow_sub-result-2 : goal.overflow_sub-result-2
+overflow_sub-result-2 c = let g = c.args in cast_fits w64 16383 (g.ax ∷ g.ay ∷ g.bx ∷ g.by ∷ g.cx ∷ g.cy ∷ g.dx ∷ g.dy ∷ []) (qx ⊛ rz ⊖ qz ⊛ rx) (omega arith) tt tt
 
-pub overflow-mul-result-6 : goal.overflow-mul-result-6
-overflow-mul-result-6 c = let g = c.args in cast_fits w64 16383 (g.ax ∷ g.ay ∷ g.bx ∷ g.by ∷ g.cx ∷ g.cy ∷ g.dx ∷ g.dy ∷ []) (py ⊛ (qx ⊛ rz ⊖ qz ⊛ rx)) (omega arith) tt tt
+pub overflow_mul-result-6 : goal.overflow_mul-result-6
+overflow_mul-result-6 c = let g = c.args in cast_fits w64 16383 (g.ax ∷ g.ay ∷ g.bx ∷ g.by ∷ g.cx ∷ g.cy ∷ g.dx ∷ g.dy ∷ []) (py ⊛ (qx ⊛ rz ⊖ qz ⊛ rx)) (omega arith) tt tt
 
-pub overflow-sub-result-3 : goal.overflow-sub-result-3
-overflow-sub-result-3 c = let g = c.args in cast_fits w64 16383 (g.ax ∷ g.ay ∷ g.bx ∷ g.by ∷ g.cx ∷ g.cy ∷ g.dx ∷ g.dy ∷ []) (px ⊛ (qy ⊛ rz ⊖ qz ⊛ ry) ⊖ py ⊛ (qx ⊛ rz ⊖ qz ⊛ rx)) (omega arith) tt tt
+pub overflow_sub-result-3 : goal.overflow_sub-result-3
+overflow_sub-result-3 c = let g = c.args in cast_fits w64 16383 (g.ax ∷ g.ay ∷ g.bx ∷ g.by ∷ g.cx ∷ g.cy ∷ g.dx ∷ g.dy ∷ []) (px ⊛ (qy ⊛ rz ⊖ qz ⊛ ry) ⊖ py ⊛ (qx ⊛ rz ⊖ qz ⊛ rx)) (omega arith) tt tt
 
-pub overflow-sub-result-4 : goal.overflow-sub-result-4
-overflow-sub-result-4 c = let g = c.args in cast_fits w64 16383 (g.ax ∷ g.ay ∷ g.bx ∷ g.by ∷ g.cx ∷ g.cy ∷ g.dx ∷ g.dy ∷ []) (qx ⊛ ry ⊖ qy ⊛ rx) (omega arith) tt tt
+pub overflow_sub-result-4 : goal.overflow_sub-result-4
+overflow_sub-result-4 c = let g = c.args in cast_fits w64 16383 (g.ax ∷ g.ay ∷ g.bx ∷ g.by ∷ g.cx ∷ g.cy ∷ g.dx ∷ g.dy ∷ []) (qx ⊛ ry ⊖ qy ⊛ rx) (omega arith) tt tt
 
-pub overflow-mul-result-9 : goal.overflow-mul-result-9
-overflow-mul-result-9 c = let g = c.args in cast_fits w64 16383 (g.ax ∷ g.ay ∷ g.bx ∷ g.by ∷ g.cx ∷ g.cy ∷ g.dx ∷ g.dy ∷ []) (pz ⊛ (qx ⊛ ry ⊖ qy ⊛ rx)) (omega arith) tt tt
+pub overflow_mul-result-9 : goal.overflow_mul-result-9
+overflow_mul-result-9 c = let g = c.args in cast_fits w64 16383 (g.ax ∷ g.ay ∷ g.bx ∷ g.by ∷ g.cx ∷ g.cy ∷ g.dx ∷ g.dy ∷ []) (pz ⊛ (qx ⊛ ry ⊖ qy ⊛ rx)) (omega arith) tt tt
 
-pub overflow-add-result : goal.overflow-add-result
-overflow-add-result c = let g = c.args in cast_fits w64 16383 (g.ax ∷ g.ay ∷ g.bx ∷ g.by ∷ g.cx ∷ g.cy ∷ g.dx ∷ g.dy ∷ []) (CE 0 1 2 3) (omega arith) tt tt
+pub overflow_add-result : goal.overflow_add-result
+overflow_add-result c = let g = c.args in cast_fits w64 16383 (g.ax ∷ g.ay ∷ g.bx ∷ g.by ∷ g.cx ∷ g.cy ∷ g.dx ∷ g.dy ∷ []) (CE 0 1 2 3) (omega arith) tt tt
 
 pub returns : goal.returns
 unfolding C

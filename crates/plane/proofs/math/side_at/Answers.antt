@@ -7,8 +7,8 @@ use Rattle.plane.proofs.Sym.{SE}
 use Rattle.plane.proofs.Bounds.{side_at_small}
 use Rattle.plane.proofs.math.side_at.Goals as goal
 
-pub overflow-sub-result : goal.overflow-sub-result
-overflow-sub-result c =
+pub overflow_sub-result : goal.overflow_sub-result
+overflow_sub-result c =
     let g = c.args in
     cast_fits w64 16383 (g.ax ∷ g.ay ∷ g.bx ∷ g.by ∷ g.qx ∷ g.qy ∷ []) (SE 0 1 2) (omega arith) tt tt
 

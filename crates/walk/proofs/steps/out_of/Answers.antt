@@ -3,4 +3,4 @@ use Rattle.preset_map.proofs.Lookups.{out_link}
 use Rattle.walk.proofs.steps.out_of.Goals as goal
 
 pub returns : goal.returns
-returns c = c.entry-number.ensures ∙ out_link c.args.map.now.words.now c.args.map.now.shape c.args.v c.args.map.now.sound
+returns c = c.entry_number.ensures ∙ out_link c.args.map.now.words.now c.args.map.now.shape c.args.v c.args.map.now.sound
