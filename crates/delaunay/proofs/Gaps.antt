@@ -1,5 +1,5 @@
 -- The polygon theorem: where each side is legal, no vector of the ring is inside a face.
-use Rattle.std.proofs.Common.{◌≡◌, ℕ, zero, suc, ◌+◌, ◌<◌, ◌≤◌, ℤ, pos, ◌+ℤ◌, ◌*ℤ◌, ◌≤ℤ◌, ◌<ℤ◌, sym, ◌∙◌, subst, inl, inr, eq-or-lt_of_le, arith}
+use Rattle.std.proofs.Common.{◌≡◌, ℕ, zero, suc, ◌<◌, ℤ, pos, ◌+ℤ◌, ◌*ℤ◌, ◌≤ℤ◌, ◌<ℤ◌, sym, ◌∙◌, subst, inl, inr, eq-or-lt_of_le, arith}
 use lib.IntN.{*ℤ_comm}
 use Rattle.zring.proofs.Signs.{mul-≤≥, mul-≥≤, cancel-≤, sum-≤, zero-≤}
 use Rattle.plane.specs.Vec.{Vec, D}

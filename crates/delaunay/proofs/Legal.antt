@@ -17,7 +17,7 @@ use Rattle.planar.proofs.Terms.{S-first, S-last, S-twice, S-back}
 use Rattle.planar.proofs.Turning.{no_ray}
 use Rattle.planar.proofs.Count.{count}
 use Rattle.planar.proofs.Within.{count_in, count_side, other_side}
-use Rattle.planar.proofs.Faces.{Among, around, triangle, two, to_in}
+use Rattle.planar.proofs.Faces.{Among, around, triangle, to_in}
 use Rattle.planar.proofs.Planarity.{face_count, corners, one_face, sector_count}
 use Rattle.planar.proofs.Spokes.{flat}
 use Rattle.planar.proofs.Rings.{ccw_in, ccw_origin}

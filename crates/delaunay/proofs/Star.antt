@@ -1,7 +1,7 @@
 -- An entry inside: the new faces turn left and are empty.
-use Rattle.std.proofs.Common.{◌≡◌, ℕ, suc, ◌+◌, ◌-◌, ◌<◌, ◌≤◌, [], ◌∷◌, ℤ, pos, ◌+ℤ◌, ◌-ℤ◌, ◌*ℤ◌, neg_ℤ, ◌≤ℤ◌, ◌<ℤ◌, sym, ap, ◌∙◌, subst, ap₂, inl, inr, eq-or-lt_of_le, arith}
+use Rattle.std.proofs.Common.{◌≡◌, ℕ, suc, ◌<◌, [], ◌∷◌, ℤ, pos, ◌+ℤ◌, ◌-ℤ◌, ◌*ℤ◌, neg_ℤ, ◌≤ℤ◌, ◌<ℤ◌, sym, ap, ◌∙◌, subst, ap₂, inl, inr, eq-or-lt_of_le, arith}
 use borrow.Author.Differences.{ints}
-use Rattle.zring.proofs.Ring.{k, ◌⊹◌, ◌⊖◌, ◌⊛◌, ⊝◌, ring}
+use Rattle.zring.proofs.Ring.{◌⊹◌, ◌⊖◌, ◌⊛◌, ⊝◌, ring}
 use Rattle.zring.proofs.Signs.{weaken, neg-≥, neg-≤}
 use Rattle.plane.specs.Plane.{Pt, pt, S, C, far}
 use Rattle.plane.specs.Vec.{Vec, D, lift, inf, less}

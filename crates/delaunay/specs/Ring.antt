@@ -1,5 +1,5 @@
 -- A ring of k vectors, by their numbers, and faces on it.
-use Rattle.std.specs.Prelude.{◌≡◌, ℕ, suc, ◌+◌, ◌<◌, ◌≤◌, ◌⊎◌, pos, ◌≤ℤ◌, ◌<ℤ◌}
+use Rattle.std.specs.Prelude.{◌≡◌, ℕ, suc, ◌+◌, ◌<◌, ◌⊎◌, pos, ◌≤ℤ◌, ◌<ℤ◌}
 use Rattle.plane.specs.Vec.{Vec, D}
 
 -- three numbers below k in the order of the ring, from any of them on

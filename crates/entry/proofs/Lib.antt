@@ -1,1 +1,2 @@
 pub mod ZeroBytes
+pub mod FloatReading

@@ -3,4 +3,4 @@ pub mod Placing
 pub mod Reading
 pub mod Settings
 pub mod Naming
-pub mod FloatReading
+pub mod Within

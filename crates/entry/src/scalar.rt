@@ -6,7 +6,7 @@ ghost use Rattle.entry.specs.declared.fault.Cause.{Cause};
 ghost use Rattle.entry.specs.declared.fault.Cause.TheVariants.{Fraction};
 ghost use Rattle.entry.specs.Reading.{outside, float_reading, read_small};
 ghost use Rattle.std.proofs.Common.{rules};
-ghost use Rattle.entry.specs.FloatReading.{float_within};
+ghost use Rattle.entry.specs.Within.{float_within};
 
 use crate::fault::Cause;
 use std::num::saturating_f64_to_u16;

@@ -1,9 +1,8 @@
 -- A map's tables after its places are written: the links of the draft with the places of the shelf.
-use Rattle.std.proofs.Common.{◌≡◌, ℕ, zero, suc, ◌+◌, ◌*◌, ◌<◌, ◌≤◌, Bool, true, false, cond, eqb, ltb, ◌≢◌, ◌⊎◌, List, length, get_or, set, Ok, Err, Result, sym, refl, ap, ◌∙◌, subst, inl, inr, le_of_suc-le-suc, not-suc-le-zero, eq-or-lt_of_le, arith, length-set, get_or-set_other, get_or-set_same, ltb-false, ltb-true, lt-ltb}
+use Rattle.std.proofs.Common.{◌≡◌, ℕ, zero, suc, ◌+◌, ◌*◌, ◌<◌, ◌≤◌, Bool, true, false, cond, ltb, ◌≢◌, ◌⊎◌, List, length, get_or, set, Ok, Result, sym, refl, ap, ◌∙◌, subst, inl, inr, le_of_suc-le-suc, not-suc-le-zero, eq-or-lt_of_le, arith, length-set, get_or-set_other, get_or-set_same, ltb-false, ltb-true, lt-ltb}
 use Rattle.entry.specs.declared.fault.EntryFault.{EntryFault}
 use Rattle.links.specs.declared.shape.Shape.{Shape}
 use Rattle.links.specs.Kept.{copied}
-use Rattle.links.specs.Links.{Links, none}
 use Rattle.links.specs.Tables.{size, cell, of_entry, of_half, of_face, coordinate, held}
 use Rattle.links.specs.Verdict.{x_coordinate, y_coordinate, judged}
 

@@ -1,7 +1,7 @@
 -- When the halves of a number are one cycle, and when not.
-use Rattle.std.proofs.Common.{◌≡◌, ℕ, zero, suc, ◌<◌, ◌≤◌, Bool, true, false, cond, not, ◌&&◌, eqb, ltb, ◌⊎◌, Some, None, sym, refl, ap, ◌∙◌, subst, inl, inr, le_of_suc-le-suc, not-suc-le-zero, eq-or-lt_of_le, arith}
+use Rattle.std.proofs.Common.{◌≡◌, ℕ, zero, suc, ◌<◌, ◌≤◌, Bool, true, false, cond, not, ◌&&◌, eqb, ltb, Some, None, sym, refl, ap, ◌∙◌, subst, inl, inr, le_of_suc-le-suc, not-suc-le-zero, eq-or-lt_of_le, arith}
 use Rattle.links.specs.Links.{Links, halves}
-use Rattle.links.specs.Tests.{all, implies, cycle}
+use Rattle.links.specs.Tests.{all, implies}
 use Rattle.links.specs.Rings.{own, home, whole, lower, Loose}
 use Rattle.links.specs.Verdict.{failing}
 use Rattle.links.proofs.Decide.{dec_eq, dec_nat_lt, never, below_next}

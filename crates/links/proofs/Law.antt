@@ -1,19 +1,16 @@
 -- A draft is accepted exactly if its tables and the shelf's places are sound.
-use Rattle.std.proofs.Common.{◌≡◌, ℕ, zero, suc, ◌+◌, ◌*◌, ◌<◌, ◌≤◌, Bool, true, false, not, ◌&&◌, ◌||◌, T, eqb, ltb, leb, ◌⊎◌, ◌↔◌, List, length, ℤ, pos, Some, None, Ok, Err, Decides, Option, Result, sym, refl, ap, ◌∙◌, subst, inl, inr, not-suc-le-zero, arith}
-use lib.Signed.{le_z, lt_z}
+use Rattle.std.proofs.Common.{◌≡◌, ℕ, zero, suc, ◌+◌, ◌*◌, ◌<◌, ◌≤◌, Bool, true, false, not, ◌&&◌, T, leb, List, length, pos, Some, None, Ok, Err, Decides, Option, Result, refl, subst, not-suc-le-zero, arith}
 use Rattle.std.specs.Option.{option_map, option_or}
 use Rattle.std.specs.Bool.{then_some}
 use Rattle.entry.specs.declared.fault.EntryFault.{EntryFault}
-use Rattle.plane.specs.Plane.{Pt, S, C}
-use Rattle.links.specs.declared.fault.CheckFault.{CheckFault}
 use Rattle.links.specs.declared.fault.Site.{Site}
 use Rattle.links.specs.declared.shape.Shape.{Shape}
-use Rattle.links.specs.Links.{Links, none, rev, halves, to, ccw, place, walk, Reached}
+use Rattle.links.specs.Links.{Links, none, halves, to, ccw, Reached}
 use Rattle.links.specs.Rules as R
 use Rattle.links.specs.Tests as test
 use Rattle.links.specs.Tables.{size}
-use Rattle.links.specs.Verdict.{failing, failing2, once, each, pairs, roomy, rule1, rule2, unplaced, rule3, rule4, rule5, rule6, rule7, rule8, link_rules, judged, verdict}
-use Rattle.links.specs.Law.{Roomy, Gridded, EveryPlace, AcceptedIfSound}
+use Rattle.links.specs.Verdict.{failing, failing2, each, pairs, rule1, rule2, unplaced, rule3, rule4, link_rules, judged}
+use Rattle.links.specs.Law.{EveryPlace, AcceptedIfSound}
 use Rattle.links.proofs.Decide.{never, is_true, dec_and, dec_and3, dec_and4, dec_or, dec_not, dec_implies, dec_same, dec_eq, dec_nat_lt, dec_nat_le, dec_le_z, dec_lt_z, dec_zero, dec_all, below_next}
 use Rattle.links.proofs.Halves.{rev_below}
 use Rattle.links.proofs.Walks.{dec_reached}

@@ -1,11 +1,11 @@
 -- What settle gives is kept: an accepted draft with its places written, and an empty map.
-use Rattle.std.proofs.Common.{◌≡◌, ℕ, zero, suc, ◌+◌, ◌*◌, ◌<◌, ◌≤◌, Bool, true, false, eqb, List, length, Ok, Result, sym, refl, ap, ◌∙◌, subst, not-suc-le-zero, arith, eqb→eq}
+use Rattle.std.proofs.Common.{◌≡◌, ℕ, ◌*◌, ◌<◌, ◌≤◌, Bool, true, false, eqb, List, Ok, Result, sym, refl, subst, not-suc-le-zero, arith, eqb→eq}
 use Rattle.entry.specs.declared.fault.EntryFault.{EntryFault}
 use Rattle.links.specs.declared.shape.Shape.{Shape}
-use Rattle.links.specs.Kept.{vacant, mapped_by, map_links, Room, Kept, copied, emptied}
+use Rattle.links.specs.Kept.{vacant, mapped_by, Kept, copied, emptied}
 use Rattle.links.specs.Law.{Roomy}
 use Rattle.links.specs.Rules.{Sound}
-use Rattle.links.specs.Tables.{size, held}
+use Rattle.links.specs.Tables.{size}
 use Rattle.links.specs.Verdict.{judged}
 use Rattle.links.proofs.Copying.{length_copied, held_copied}
 use Rattle.links.proofs.Decide.{holds}

@@ -1,5 +1,5 @@
 -- The clauses on entries that lie where they may not, as the code tries them.
-use Rattle.std.proofs.Common.{◌≡◌, ℕ, ◌<◌, Bool, true, false, not, eqb, pos, None, sym, refl, ap, ◌∙◌, subst, eq-eqb, ne_eqb}
+use Rattle.std.proofs.Common.{◌≡◌, ℕ, not, pos, None, sym, refl, ap, ◌∙◌, eq-eqb, ne_eqb}
 use lib.Signed.{le_z}
 use Rattle.plane.specs.Plane.{Pt, C}
 use Rattle.links.specs.Links.{Links, place}

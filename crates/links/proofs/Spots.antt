@@ -2,8 +2,6 @@
 use Rattle.std.proofs.Common.{◌≡◌, ℕ, zero, suc, ◌<◌, ◌≤◌, List, [], ◌∷◌, length, get_or, pos, Ok, Err, Result, sym, refl, ap, ◌∙◌, subst, ap₂, le_of_suc-le-suc, not-suc-le-zero, arith, lit≤}
 use borrow.Author.Differences.{ints}
 use Rattle.plane.specs.Plane.{Pt, pt}
-use Rattle.plane.specs.Spot.{spot}
-use Rattle.plane.specs.declared.place.Place.{Place}
 use Rattle.entry.specs.Placing.{spot_of, both, on_axis}
 use Rattle.entry.specs.declared.fault.Axis.TheVariants.{X, Y}
 use Rattle.entry.specs.declared.fault.Cause.{Cause}

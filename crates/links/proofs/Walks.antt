@@ -1,6 +1,6 @@
 -- Walks by a step among numbers below a bound: what is reached is reached soon.
-use Rattle.std.proofs.Common.{◌≡◌, ℕ, zero, suc, ◌+◌, ◌-◌, ◌<◌, ◌≤◌, Bool, true, false, eqb, ◌⊎◌, Decides, sym, refl, ap, ◌∙◌, subst, inl, inr, le_of_suc-le-suc, not-suc-le-zero, eq-or-lt_of_le, arith}
-use native.Mathlib.Decide.{ℕ_discrete, dec_lt}
+use Rattle.std.proofs.Common.{◌≡◌, ℕ, zero, suc, ◌+◌, ◌-◌, ◌<◌, ◌≤◌, true, eqb, ◌⊎◌, Decides, sym, ap, ◌∙◌, subst, inl, inr, le_of_suc-le-suc, not-suc-le-zero, eq-or-lt_of_le, arith}
+use native.Mathlib.Decide.{ℕ_discrete}
 use Rattle.links.specs.Links.{walk, Reached}
 use Rattle.links.specs.Tests.{reaches}
 use Rattle.links.proofs.Decide.{any_out, any_in, dec_eq}

@@ -1,5 +1,5 @@
 -- A doubly connected edge list, apart from how it is stored: entries, halves and faces are numbers from 0.
-use Rattle.std.specs.Prelude.{◌≡◌, ℕ, zero, suc, ◌+◌, ◌-◌, ◌*◌, ◌%◌, ◌<◌, ℤ, pos}
+use Rattle.std.specs.Prelude.{◌≡◌, ℕ, zero, suc, ◌+◌, ◌-◌, ◌*◌, ◌%◌, pos}
 use Rattle.plane.specs.Plane.{Pt, pt}
 
 -- n entries with place and out_edge, e edges of two halves each, f faces with adjacent_edge

@@ -1,7 +1,7 @@
 -- The rules of a sound map over its links, one clause a definition: what is asked of one record, or of a pair. `Sound` asks it of all.
-use Rattle.std.specs.Prelude.{◌≡◌, ℕ, zero, suc, ◌+◌, ◌*◌, ◌<◌, ◌≤◌, ◌⊎◌, ◌↔◌, ℤ, pos, ◌≤ℤ◌, ◌<ℤ◌}
+use Rattle.std.specs.Prelude.{◌≡◌, ℕ, ◌+◌, ◌*◌, ◌<◌, ◌≤◌, ◌⊎◌, ◌↔◌, pos, ◌≤ℤ◌, ◌<ℤ◌}
 use Rattle.plane.specs.Plane.{Pt, S, C, dot}
-use Rattle.links.specs.Links.{Links, none, rev, halves, to, ccw, place, Reached}
+use Rattle.links.specs.Links.{Links, none, halves, to, ccw, place, Reached}
 
 -- q lies on the segment from a to b, ends included
 abbrev pub On : Pt → Pt → Pt → Type 0

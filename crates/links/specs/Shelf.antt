@@ -1,5 +1,5 @@
 -- The entries of a shelf as a check sees them: the place of each, or why it has none.
-use Rattle.std.specs.Prelude.{ℕ, zero, suc, min, List, [], ◌∷◌, length, take, pos, Ok, Err, Option, Result}
+use Rattle.std.specs.Prelude.{ℕ, zero, suc, min, List, [], ◌∷◌, length, take, pos, Ok, Option, Result}
 use Rattle.plane.specs.Plane.{Pt, pt}
 use Rattle.entry.specs.Placing.{spot_of}
 use Rattle.entry.specs.declared.fault.Cause.{Cause}

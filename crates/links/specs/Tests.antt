@@ -1,7 +1,7 @@
 -- The clauses of the rules as tests of one record, or of a pair.
-use Rattle.std.specs.Prelude.{ℕ, zero, suc, ◌+◌, ◌*◌, Bool, true, false, cond, not, ◌&&◌, ◌||◌, ℤ, pos, ◌==◌, int_le, int_lt, nat_eq, nat_le, nat_lt}
-use Rattle.plane.specs.Plane.{Pt, S, C, on_segment}
-use Rattle.links.specs.Links.{Links, none, rev, halves, to, ccw, place, walk}
+use Rattle.std.specs.Prelude.{ℕ, zero, suc, ◌+◌, ◌*◌, Bool, true, false, not, ◌&&◌, ◌||◌, pos, ◌==◌, int_le, int_lt, nat_eq, nat_le, nat_lt}
+use Rattle.plane.specs.Plane.{S, C, on_segment}
+use Rattle.links.specs.Links.{Links, none, halves, to, ccw, place, walk}
 use Rattle.links.specs.Rules.{corner0, corner1, corner2, end0, end1}
 
 -- t holds of each number below k

@@ -1,5 +1,5 @@
 -- What check answers: the first clause that fails, in the order of the rules, at the lowest record.
-use Rattle.std.specs.Prelude.{ℕ, zero, suc, ◌+◌, Bool, true, false, not, ◌&&◌, List, length, Some, None, Ok, Err, Option, Result, ◌==◌, nat_le}
+use Rattle.std.specs.Prelude.{ℕ, zero, suc, ◌+◌, Bool, not, ◌&&◌, List, length, Some, None, Ok, Err, Option, Result, ◌==◌, nat_le}
 use Rattle.std.specs.Option.{option_map, option_or}
 use Rattle.std.specs.Bool.{then_some}
 use Rattle.entry.specs.declared.fault.EntryFault.{EntryFault}
@@ -13,7 +13,7 @@ use Rattle.links.specs.declared.fault.Site.TheVariants.{Whole, Entry, Half, Edge
 use Rattle.links.specs.declared.shape.Shape.{Shape}
 use Rattle.links.specs.Links.{Links, halves}
 use Rattle.links.specs.Tables.{size, linked}
-use Rattle.links.specs.Tests.{counted, named, half_named, rooted, undone, shared, joined, around, along, parted, ended, euler, turned, apart, single, clear, hulled, empty}
+use Rattle.links.specs.Tests.{named, half_named, rooted, undone, shared, joined, around, along, parted, ended, euler, turned, apart, single, clear, hulled, empty}
 
 -- the lowest number below k at which the test fails
 abbrev pub failing : ℕ → (ℕ → Bool) → Option ℕ

@@ -8,7 +8,7 @@ use native.Mathlib.Nat.{le_of_suc-le-suc, not-suc-le-zero, eq-or-lt_of_le}
 use lib.IntN.{ℤ, pos, ◌+ℤ◌, ◌-ℤ◌, ◌*ℤ◌, *ℤ_comm, zero-*ℤ}
 use lib.Signed.{◌≤ℤ◌, ◌<ℤ◌}
 use borrow.Author.Differences.{ints}
-use Rattle.zring.proofs.Ring.{v, ◌⊹◌, ◌⊖◌, ◌⊛◌, ring}
+use Rattle.zring.proofs.Ring.{◌⊹◌, ◌⊖◌, ◌⊛◌, ring}
 use Rattle.zring.proofs.Signs.{mul-≥≥, mul->>, mul-≥≤, cancel->, cancel-≥, cancel-≤, weaken, zero-≤, neg_both, neg-≥, zero_clash, neg-≤, sum->, zero-≥, both_zero}
 use Rattle.plane.specs.Plane.{Pt, S}
 use Rattle.plane.proofs.Sym.{X, Y, SE, coords}

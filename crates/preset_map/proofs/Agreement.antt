@@ -1,10 +1,9 @@
 -- The lowest entry whose place differs.
-use Rattle.std.proofs.Common.{◌≡◌, ℕ, ◌<◌, min, Bool, true, false, cond, eqb, Some, None, Ok, Err, Result, sym, refl, ap, ◌∙◌, subst, arith, eq-eqb, ne_eqb}
+use Rattle.std.proofs.Common.{◌≡◌, ℕ, ◌<◌, min, true, false, cond, Ok, Err, Result, sym, ap, ◌∙◌, subst, arith, eq-eqb, ne_eqb}
 use Rattle.entry.specs.declared.fault.EntryFault.{EntryFault}
 use Rattle.links.specs.Links.{Links}
 use Rattle.links.specs.Verdict.{failing}
 use Rattle.links.proofs.First.{none_failing, first_failing_is}
-use Rattle.preset_map.specs.declared.agreeing.Differs.{Differs}
 use Rattle.preset_map.specs.declared.agreeing.Differs.TheVariants.{Count, Place}
 use Rattle.preset_map.specs.Agreeing.{is_same_spot, lowest, agreement}
 

@@ -1,12 +1,12 @@
 -- A link read from a map's memory is the link of the map.
-use Rattle.std.proofs.Common.{◌≡◌, ℕ, ◌+◌, ◌*◌, ◌<◌, ◌≤◌, Bool, true, false, cond, ◌&&◌, eqb, ltb, List, length, get_or, sym, refl, ap, ◌∙◌, subst, not-suc-le-zero, arith, ltb-true, lt-ltb, eqb-true}
+use Rattle.std.proofs.Common.{◌≡◌, ℕ, ◌+◌, ◌*◌, ◌<◌, Bool, true, false, cond, ◌&&◌, eqb, ltb, List, length, get_or, sym, refl, ap, ◌∙◌, subst, not-suc-le-zero, arith, ltb-true, lt-ltb, eqb-true}
 use mathlib.Core.Logic.{∥∥₁_elim}
 use native.Mathlib.Nat.{ℕ_set}
 use borrow.Author.Tests.{eqb-false}
 use Rattle.links.specs.declared.shape.Shape.{Shape}
 use Rattle.links.specs.Kept.{Kept, Room, mapped_by, map_links}
 use Rattle.links.specs.Links.{Links, none}
-use Rattle.links.specs.Tables.{size, cell, looked, half_at, face_at, entry_at, of_half, of_entry, of_face}
+use Rattle.links.specs.Tables.{cell, looked, half_at, face_at, entry_at, of_entry}
 
 module _ (w : List ℕ) (s : Shape) where
   -- in the table means in the slice

@@ -1,9 +1,8 @@
 -- What a write changes, and what it leaves.
-use Rattle.std.proofs.Common.{◌≡◌, ℕ, ◌+◌, ◌*◌, ◌<◌, ◌≤◌, Bool, true, false, cond, eqb, ltb, ◌≢◌, List, length, get_or, set, sym, refl, ap, ◌∙◌, subst, arith, length-set, get_or-set_other, get_or-set_same, ltb-true, lt-ltb, eq-eqb, ne_eqb}
+use Rattle.std.proofs.Common.{◌≡◌, ℕ, ◌+◌, ◌*◌, ◌<◌, ◌≤◌, Bool, true, false, cond, eqb, ltb, ◌≢◌, List, length, set, sym, refl, ap, ◌∙◌, subst, arith, length-set, get_or-set_other, get_or-set_same, ltb-true, lt-ltb, eq-eqb, ne_eqb}
 use native.Mathlib.Decide.{ℕ_discrete}
 use Rattle.links.specs.declared.shape.Shape.{Shape}
-use Rattle.links.specs.Links.{Links, none}
-use Rattle.links.specs.Tables.{cell, size, half_at, face_at, entry_at, of_entry, of_half, of_face, coordinate, held}
+use Rattle.links.specs.Tables.{cell, size, of_entry, of_half, of_face, coordinate, held}
 use Rattle.preset_map.specs.Filling.{with_out, with_half, with_face}
 use Rattle.preset_map.specs.Updates.{upd, set_out, set_adj, set_half_links, WritesUpdate}
 

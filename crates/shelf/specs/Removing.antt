@@ -1,5 +1,5 @@
 -- A shelf as a plain list with a count: what removal and renewal answer and leave.
-use Rattle.std.specs.Prelude.{ℕ, suc, ◌-◌, min, Bool, true, false, cond, List, length, Some, None, Ok, Err, Option, Result, ◌==◌, nat_lt, slice_index_or, slice_set}
+use Rattle.std.specs.Prelude.{ℕ, ◌-◌, min, cond, List, length, Some, None, Ok, Err, Option, Result, ◌==◌, nat_lt, slice_index_or, slice_set}
 use Rattle.shelf.specs.declared.NoEntry.{NoEntry}
 use Rattle.shelf.specs.declared.Removed.{Removed}
 

@@ -2,7 +2,7 @@
 use Rattle.std.proofs.Common.{◌≡◌, ℕ, ◌/◌, Bool, true, false, eqb, ◌≢◌, ◌⊎◌, sym, refl, ap, ◌∙◌, subst, inl, inr, ne_eqb, eqb-true}
 use borrow.Author.Tests.{eqb-false}
 use Rattle.std.proofs.lemmas.Bool.{cases_eq}
-use Rattle.links.specs.Links.{Links, rev, to, ccw}
+use Rattle.links.specs.Links.{Links, rev, ccw}
 use Rattle.links.proofs.Halves.{rev_rev}
 use Rattle.surgery.specs.Cut.{Cut}
 use Rattle.surgery.proofs.Cycles.{here, step, trans, along_reach, Conn, Reach}

@@ -1,5 +1,5 @@
 -- The operations keep the link rules; and those are rules 3 and 4 where all below the counts lives.
-use Rattle.std.proofs.Common.{◌≡◌, ℕ, suc, ◌-◌, ◌*◌, ◌/◌, ◌<◌, ◌≢◌, sym, refl, ap, ◌∙◌, arith}
+use Rattle.std.proofs.Common.{◌≡◌, ℕ, suc, ◌*◌, ◌/◌, ◌<◌, ◌≢◌, sym, refl, ap, ◌∙◌, arith}
 use Rattle.links.specs.Links.{Links, none, rev}
 use Rattle.links.proofs.Halves.{rev_even}
 use Rattle.links.proofs.Decide.{is_true}

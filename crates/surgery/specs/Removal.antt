@@ -1,6 +1,6 @@
 -- Removal of a dead record: the last record moves to its number (dcel_operations::swap_remove_undirected_edge, fix_handle_swap,
 -- swap_remove_face, swap_remove_vertex).
-use Rattle.std.specs.Prelude.{◌≡◌, ℕ, ◌+◌, ◌-◌, ◌*◌, ◌≢◌, ◌⊎◌}
+use Rattle.std.specs.Prelude.{◌≡◌, ℕ, ◌+◌, ◌*◌, ◌≢◌, ◌⊎◌}
 use Rattle.links.specs.Links.{Links}
 use Rattle.surgery.specs.Update.{upd}
 

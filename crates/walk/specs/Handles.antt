@@ -1,5 +1,5 @@
 -- Small questions about a half.
-use Rattle.std.specs.Prelude.{ℕ, Bool, true, false, cond, not, ◌&&◌, Some, None, Option, ◌==◌, nat_lt}
+use Rattle.std.specs.Prelude.{ℕ, Bool, cond, not, ◌&&◌, Some, None, Option, ◌==◌, nat_lt}
 use Rattle.links.specs.Links.{Links, halves, to}
 
 module _ (m : Links) where

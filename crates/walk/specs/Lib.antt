@@ -2,5 +2,4 @@ pub mod Walking
 pub mod Handles
 pub mod Starting
 pub mod Theorems
-pub mod Instances
-pub mod Rounds
+pub mod Undone

@@ -3,7 +3,7 @@ ghost use Rattle.std.specs.Prelude.{◌≡◌, ℕ, ◌<◌};
 ghost use Rattle.links.specs.Kept.{map_links};
 ghost use Rattle.links.specs.Links.{Links, ccw, cw, halves, rev as other};
 ghost use Rattle.links.specs.Rules.{Sound};
-ghost use Rattle.walk.specs.Instances.{cw_ccw, ccw_cw};
+ghost use Rattle.walk.specs.Undone.{cw_ccw, ccw_cw};
 
 use preset_map::Map;
 

@@ -1,5 +1,5 @@
 use Rattle.std.proofs.Common.{◌∙◌}
-use Rattle.entry.specs.FloatReading.{ends_read, between_read}
+use Rattle.entry.proofs.FloatReading.{ends_read, between_read}
 use Rattle.entry.proofs.scalar.read_float.Goals as goal
 
 pub returns-in-Some : goal.returns-in-Some

@@ -1,9 +1,9 @@
-use Rattle.std.proofs.Common.{sym, ap, ◌∙◌}
+use Rattle.std.proofs.Common.{sym, ◌∙◌}
 use Rattle.std.specs.Option.{option_or}
 use Rattle.std.proofs.lemmas.Result.{err_from_is_err_and}
 use Rattle.links.specs.Links.{Links}
 use Rattle.links.specs.Shelf.{seen}
-use Rattle.links.specs.Verdict.{told, rule3, rule4, place_rules}
+use Rattle.links.specs.Verdict.{rule3, rule4, place_rules}
 use Rattle.links.proofs.First.{told_then, told_first}
 use Rattle.links.proofs.checking.check_links.Goals as goal
 

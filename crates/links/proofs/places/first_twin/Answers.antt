@@ -1,4 +1,4 @@
-use Rattle.std.proofs.Common.{◌<◌, ◌≤◌, true, false, sym, ap, subst, lt_of_lt_of_le, arith, below_more}
+use Rattle.std.proofs.Common.{◌<◌, ◌≤◌, true, false, sym, subst, lt_of_lt_of_le, arith, below_more}
 use Rattle.links.specs.Tables.{held}
 use Rattle.links.proofs.First.{none_failing, first_failing_is, single_early, single_now}
 use Rattle.links.proofs.places.first_twin.Goals as goal

@@ -1,4 +1,4 @@
-use Rattle.std.proofs.Common.{◌≡◌, ℕ, ◌*◌, ltb, sym, ap, ◌∙◌, subst}
+use Rattle.std.proofs.Common.{ℕ, ◌*◌, ltb, sym, ap, ◌∙◌}
 use Rattle.preset_map.proofs.Lookups.{same_e}
 use Rattle.walk.proofs.handles.has_half.Goals as goal
 

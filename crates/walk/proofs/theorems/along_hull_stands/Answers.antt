@@ -1,4 +1,4 @@
-use Rattle.walk.specs.Instances.{along_hull}
+use Rattle.walk.proofs.Instances.{along_hull}
 use Rattle.walk.proofs.theorems.along_hull_stands.Goals as goal
 
 pub returns : goal.returns

@@ -1,4 +1,4 @@
-use Rattle.walk.specs.Instances.{around_entry}
+use Rattle.walk.proofs.Instances.{around_entry}
 use Rattle.walk.proofs.theorems.around_entry_stands.Goals as goal
 
 pub returns : goal.returns

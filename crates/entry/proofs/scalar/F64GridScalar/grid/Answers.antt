@@ -1,5 +1,5 @@
 use Rattle.std.proofs.Common.{◌∙◌}
-use Rattle.entry.specs.FloatReading.{cut_read}
+use Rattle.entry.proofs.FloatReading.{cut_read}
 use Rattle.entry.proofs.scalar.F64GridScalar.grid.Goals as goal
 
 pub returns : goal.returns

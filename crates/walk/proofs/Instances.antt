@@ -1,15 +1,16 @@
 -- The steps of the two walks undo each other, stay among the halves, and keep their subject.
 use Rattle.std.specs.Prelude.{◌≡◌, ℕ, zero, suc, ◌<◌, ◌≤◌, refl}
-use Rattle.std.proofs.Common.{sym, ◌∙◌, ap, subst, arith}
-use Rattle.links.specs.Links.{Links, rev, halves, to, cw, ccw, walk}
-use Rattle.links.specs.Rules.{Present, Sound}
-use Rattle.links.proofs.Halves.{rev_rev, rev_below}
+use Rattle.std.proofs.Common.{◌∙◌, ap, subst, arith}
+use Rattle.links.specs.Links.{Links, rev, halves, cw, ccw, walk}
+use Rattle.links.specs.Rules.{Sound}
+use Rattle.links.proofs.Halves.{rev_below}
 use Rattle.links.proofs.Walks.{walk_in}
 use Rattle.planar.specs.Parts.{InRange, Woven}
 use Rattle.planar.proofs.Rings.{rings, borders}
+use Rattle.walk.specs.Undone.{cw_ccw}
 use Rattle.walk.specs.Walking.{fresh, played, HandedOut}
 use Rattle.walk.specs.Theorems.{AroundEntry, AlongHull}
-use Rattle.walk.specs.Rounds.{handed_out}
+use Rattle.walk.proofs.Rounds.{handed_out}
 
 module _ (m : Links) (s : Sound m) where
   ranged : InRange m
@@ -23,12 +24,6 @@ module _ (m : Links) (s : Sound m) where
 
   pub cw_in : (h : ℕ) → h < halves m → cw m h < halves m
   cw_in h l = (s.half_named (rev h) (rev_below m.e h l)).0
-
-  pub cw_ccw : (h : ℕ) → h < halves m → cw m (ccw m h) ≡ h
-  cw_ccw h l = ap m.next (rev_rev (m.prev h)) ∙ (s.undone h l).1
-
-  pub ccw_cw : (h : ℕ) → h < halves m → ccw m (cw m h) ≡ h
-  ccw_cw h l = ap rev (s.undone (rev h) (rev_below m.e h l)).0 ∙ rev_rev h
 
   pub next_in : (h : ℕ) → h < halves m → m.next h < halves m
   next_in h l = (s.half_named h l).0
