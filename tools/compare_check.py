@@ -23,7 +23,7 @@ script that shows it. Exit status: 0 if all agree, 1 if any does not, 2 if a pro
 
 Example:
 
-    tools/compare_check.py --oracle bin/oracle --corpus bin/corpus --pad target/bin/pad \\
+    tools/compare_check.py --oracle bin/oracle --corpus bin/corpus --pad crates/pad/out/pad \\
         --seed 1 --maps 300 --largest 40 --damages 12
 """
 
