@@ -5,7 +5,7 @@ mod complaint;
 mod kind;
 mod player;
 mod script;
-mod shelf;
+mod shelf_commands;
 mod tables;
 mod walks;
 

@@ -5,7 +5,7 @@ ghost use Rattle.pad.specs.Turns.{bytes, Left};
 use crate::complaint::{Complaint, Trouble};
 use crate::kind::{Kind, Written};
 use crate::script::{Script, Words};
-use crate::shelf::play_shelf;
+use crate::shelf_commands::play_shelf;
 use crate::tables::{Request, read_request, show, tell_check, tell_settle, write_record};
 use crate::walks::play_walk;
 use entry::{Point2, Preset};
