@@ -2,7 +2,7 @@
 #![tactic(auto)]
 
 ghost use Rattle.planar.specs.Planarity.{Planar};
-ghost use Rattle.planar.specs.Star.{PlacesDiffer, SpokesDiffer, OneOuter, Rings, Borders, Soon, ThreeHalves, StarFaces, CornersDiffer, ThreeSpokes, Ordered, Surrounded, Fans, OneLine, TwoSpokes, EndsDiffer, OnePath, JoinedLine};
+ghost use Rattle.planar.specs.Star.{PlacesDiffer, SpokesDiffer, OneOuter, Rings, Borders, Soon, ThreeHalves, StarFaces, CornersDiffer, ThreeSpokes, Ordered, Surrounded, Fans, Wedge, OneLine, TwoSpokes, EndsDiffer, OnePath, JoinedLine};
 ghost use Rattle.planar.specs.Convex.{StarEmpty, ConvexInside, ConvexHull, Weighs, Strict};
 ghost use Rattle.planar.specs.Enough.{EdgesDiffer, SidesDiffer, Sixth, Enough, EnoughLine, EnoughEmpty, BothOuter};
 ghost use Rattle.planar.specs.Moved.{Renames};
@@ -108,6 +108,13 @@ pub fn surrounded_stands() -> u8
 // The spokes of an entry of the hull, two at least, are a fan that turns left, and every entry lies in it.
 pub fn fans_stands() -> u8
     ensures { Fans }
+{
+    0
+}
+
+// Between the two outer edges of an entry of the hull lie all entries.
+pub fn wedge_stands() -> u8
+    ensures { Wedge }
 {
     0
 }

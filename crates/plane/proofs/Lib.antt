@@ -9,3 +9,4 @@ pub mod Bounds
 pub mod Convex
 pub mod Worked
 pub mod Floats
+pub mod Same

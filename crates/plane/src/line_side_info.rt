@@ -1,7 +1,6 @@
 // On which side of a directed line a place lies.
 ghost use Rattle.std.specs.Prelude.{◌≡◌, ◌^◌, ◌≤◌, ℤ, pos, neg_ℤ, ◌==◌, int_le, int_lt, unsigned_abs};
-ghost use Rattle.plane.specs.Holds.{Holds, alike, same_side};
-ghost use Rattle.plane.specs.Value.{below_zero, equals_zero};
+ghost use Rattle.plane.specs.Holds.{Holds, alike, same_side, tests_on_line, tests_right};
 ghost use Rattle.std.specs.Cmp.Rules.{comparing};
 ghost use Rattle.std.proofs.Common.{rules};
 
@@ -32,7 +31,7 @@ impl LineSideInfo {
     // Strictly right of the line.
     pub fn is_on_right_side(&self) -> bool
         ensures value { (z : ℤ) → Holds self.now z → result ≡ int_lt z (pos 0) }
-        ensures test { result ≡ below_zero self.now.signed_side }
+        ensures test { result ≡ tests_right self.now }
     {
         negative(self.signed_side)
     }
@@ -51,7 +50,7 @@ impl LineSideInfo {
 
     pub fn is_on_line(self) -> bool
         ensures value { (z : ℤ) → Holds self z → result ≡ (unsigned_abs z == 0) }
-        ensures test { result ≡ equals_zero self.signed_side }
+        ensures test { result ≡ tests_on_line self }
     {
         zero(self.signed_side)
     }

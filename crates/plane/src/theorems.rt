@@ -1,4 +1,5 @@
 // Each function's contract is a theorem.
+ghost use Rattle.plane.specs.Holds.{SameSide};
 ghost use Rattle.plane.specs.Worked.{WorkedValues};
 ghost use Rattle.plane.specs.Identities.{SideLaws, CircleLaws, Multilinear, Alternating, Lifted, Five, FivePoints, Three, SectorVectors, SectorPoints, FlipMeasure};
 ghost use Rattle.plane.specs.Signs.{Bounds, Mean, Pencil, Flip, Chord, Sector, Tie, Outward, Broken, Border};
@@ -6,6 +7,13 @@ ghost use Rattle.plane.specs.Signs.{Bounds, Mean, Pencil, Flip, Chord, Sector, T
 // four values by computation
 pub fn worked_values_stands() -> u8
     ensures { WorkedValues }
+{
+    0
+}
+
+// == and != of two sides go by the whole numbers that they hold
+pub fn same_side_stands() -> u8
+    ensures { SameSide }
 {
     0
 }

@@ -1,7 +1,7 @@
 #!/usr/bin/env python3
 """Writes erasures that the Rust crate spade made as cases for the definition of an erasure.
 
-Usage: tools/compare_erasures.py --corpus CORPUS --crate crates/erasure [--seeds A B] [--largest N] [--each N]
+Usage: unfinished/compare_erasures.py --corpus CORPUS --crate crates/erasure [--seeds A B] [--largest N] [--each N]
 
 CORPUS is a generator of sound maps with an erasure each and the map after it (see tools/compare_check.py).
 Of each sort of erasure (how many entries; inside, on the hull, flat or on a line; how many spokes) at most
@@ -70,30 +70,26 @@ def as_tables(table):
 
 
 SPEC = """-- Erasures as the Rust makes them, from small random maps: places on lines and on circles, inside, on the hull, on a line.
-use mathlib.Core.Path.{_≡_}
-use mathlib.Core.List.{List, [], _∷_}
-use Prim.Native.Nat.{ℕ}
-use Rattle·std.specs.declared.option.Option.{Option}
-use Rattle·std.specs.declared.option.Option.the-variants.{None, Some}
-use Rattle·erasure·specs.Compared.{Tables, tables, Erases}
+use Rattle.std.specs.Prelude.{◌≡◌, ℕ, List, [], ◌∷◌, Some, None, Option}
+use Rattle.erasure.specs.Compared.{Tables, tables, Erases}
 
 """
 
 PROOF = """-- The definition gives the tables of the Rust, by computation.
-use mathlib.Core.Path.{refl}
-use Rattle·plane.specs.Plane.{S, C}
-use Rattle·links.specs.Links.{rev}
-use Rattle·surgery.specs.Update.{upd, flip}
-use Rattle·surgery.specs.Removal.{renumber, carryEdge, fixSwap, moveEdge, moveFace, moveEntry}
-use Rattle·surgery.specs.Fan.{cutEar}
-use Rattle·erasure·specs.Detach.{detach}
-use Rattle·erasure·specs.Fill.{lastTriangle}
-use Rattle·erasure·specs.Line.{unlinked, shorten, straighten}
-use Rattle·erasure·specs.Corpus.{Same-as-rust}
+use Rattle.std.proofs.Common.{refl}
+use Rattle.plane.specs.Plane.{S, C}
+use Rattle.links.specs.Links.{rev}
+use Rattle.surgery.specs.Update.{upd, flip}
+use Rattle.surgery.specs.Removal.{renumber, carry_edge, fix_swap, move_edge, move_face, move_entry}
+use Rattle.surgery.specs.Fan.{cut_ear}
+use Rattle.erasure.specs.Detach.{detach}
+use Rattle.erasure.specs.Fill.{last_triangle}
+use Rattle.erasure.specs.Line.{unlinked, shorten, straighten}
+use Rattle.erasure.specs.Corpus.{SameAsRust}
 
-pub same-as-rust : Same-as-rust
-unfolding S C rev upd flip renumber carryEdge fixSwap moveEdge moveFace moveEntry cutEar detach lastTriangle unlinked shorten straighten
-same-as-rust = (
+pub same_as_rust : SameAsRust
+unfolding S C rev upd flip renumber carry_edge fix_swap move_edge move_face move_entry cut_ear detach last_triangle unlinked shorten straighten
+same_as_rust = (
 """
 
 
@@ -119,7 +115,7 @@ def main():
     for i, (sort, (v, before, moved, after)) in enumerate(kept):
         answer = "None" if moved == "-" else f"(Some {moved})"
         spec += f"-- {sort[0]}, {sort[-1]} spokes\nabbrev case{i} : Type 0\ncase{i} =\n    Erases {as_tables(before)} {v}\n    {answer} {as_tables(after)}\n\n"
-    spec += "-- the definition gives these tables, number by number\nabbrev pub Same-as-rust : Type 0\nSame-as-rust = " + " × ".join(f"case{i}" for i in range(len(kept))) + "\n"
+    spec += "-- the definition gives these tables, number by number\nabbrev pub SameAsRust : Type 0\nSameAsRust = " + " × ".join(f"case{i}" for i in range(len(kept))) + "\n"
     (options.crate / "specs" / "Corpus.antt").write_text(spec)
     (options.crate / "proofs" / "Corpus.antt").write_text(PROOF + "  (refl, refl),\n" * len(kept) + ")\n")
     print(f"{len(kept)} cases: " + ", ".join(f"{' '.join(map(str, sort))}: {count}" for sort, count in sorted(seen.items())))
