@@ -438,3 +438,41 @@ module _ (A : Type 0) (same? : (x y : A) → Dec (x ≡ y)) (Live : A → Type 0
 
       pub stay_left_below : (x : A) → Below A Live nx' lab' M x → pos 0 ≤ℤ S (p (lab' x)) (p (lab' (nx' x))) (p (lab' (nx' (nx' x))))
       stay_left_below x b = below x b (which x)
+
+    -- ---- which halves have a face without the apex afterwards: those of the one that is cut off, and those that had one
+    low : (n : ℕ) → n ≡ suc M → n ≤ M → ⊥
+    low n e h = omega arith
+
+    pub below_was : (x : A) → Below A Live nx' lab' M x → (x ≡ t) ⊎ ((x ≡ ep) ⊎ ((x ≡ tn) ⊎ Below A Live nx lab M x))
+    below_was x b = go (which x)
+      where
+        go : Which x → (x ≡ t) ⊎ ((x ≡ ep) ⊎ ((x ≡ tn) ⊎ Below A Live nx lab M x))
+        go (is_e q) = absurd (low (lab' (nx' (nx' x))) (ap (λ u. lab' (nx' (nx' u))) q ∙ across_e.apex) b.third)
+        go (is_en q) = absurd (low (lab' x) (ap lab' q ∙ l_en ∙ apex) b.first)
+        go (is_tp q) = absurd (low (lab' (nx' x)) (ap (λ u. lab' (nx' u)) q ∙ ap lab' fl.next_tp ∙ l_en ∙ apex) b.second)
+        go (is_t q) = inl q
+        go (is_ep q) = inr (inl q)
+        go (is_tn q) = inr (inr (inl q))
+        go (is_other n) =
+            let n1 = other_nx x b.live n in
+            let n2 = other_nx (nx x) (m.stays x b.live) n1 in
+            let x1 = ap lab' (same_nx x n) ∙ same_lab (nx x) n1 in
+            let x2 = ap (λ u. lab' (nx' u)) (same_nx x n) ∙ ap lab' (same_nx (nx x) n1) ∙ same_lab (nx (nx x)) n2 in
+            inr (inr (inr (record { live = b.live; first = subst (λ k. k ≤ M) (same_lab x n) b.first; second = subst (λ k. k ≤ M) x1 b.second; third = subst (λ k. k ≤ M) x2 b.third })))
+
+    pub below_stays : (x : A) → Below A Live nx lab M x → Below A Live nx' lab' M x
+    below_stays x b = go (which x)
+      where
+        go : Which x → Below A Live nx' lab' M x
+        go (is_e q) = absurd (low (lab (nx x)) (ap (λ u. lab (nx u)) q ∙ apex) b.second)
+        go (is_en q) = absurd (low (lab x) (ap lab q ∙ apex) b.first)
+        go (is_ep q) = absurd (low (lab (nx (nx x))) (ap (λ u. lab (nx (nx u))) q ∙ ap (λ u. lab (nx u)) (m.three e le) ∙ apex) b.third)
+        go (is_t q) = absurd (low (lab x) (ap lab q ∙ from ∙ apex) b.first)
+        go (is_tn q) = absurd (low (lab (nx (nx x))) (ap (λ u. lab (nx (nx u))) q ∙ ap lab (m.three t lt) ∙ from ∙ apex) b.third)
+        go (is_tp q) = absurd (low (lab (nx x)) (ap (λ u. lab (nx u)) q ∙ ap lab (m.three t lt) ∙ from ∙ apex) b.second)
+        go (is_other n) =
+            let n1 = other_nx x b.live n in
+            let n2 = other_nx (nx x) (m.stays x b.live) n1 in
+            let x1 = ap lab' (same_nx x n) ∙ same_lab (nx x) n1 in
+            let x2 = ap (λ u. lab' (nx' u)) (same_nx x n) ∙ ap lab' (same_nx (nx x) n1) ∙ same_lab (nx (nx x)) n2 in
+            record { live = b.live; first = subst (λ k. k ≤ M) (sym (same_lab x n)) b.first; second = subst (λ k. k ≤ M) (sym x1) b.second; third = subst (λ k. k ≤ M) (sym x2) b.third }

@@ -33,7 +33,7 @@ index_none : (c : ℕ → ℕ) (k u : ℕ) → ((i : ℕ) → i < k → ¬ (c i 
 index_none c zero u n = refl
 index_none c (suc k) u n = index_no c k u (n 0 (omega arith)) ∙ ap suc (index_none (λ i. c (suc i)) k u (λ i l. n (suc i) (omega arith)))
 
-index_at : (c : ℕ → ℕ) (k i u : ℕ) → i < k → ((a b : ℕ) → a < b → b < k → ¬ (c a ≡ c b)) → c i ≡ u → index c k u ≡ i
+pub index_at : (c : ℕ → ℕ) (k i u : ℕ) → i < k → ((a b : ℕ) → a < b → b < k → ¬ (c a ≡ c b)) → c i ≡ u → index c k u ≡ i
 index_at c zero i u l apart e = absurd (not-suc-le-zero l)
 index_at c (suc k) zero u l apart e = index_yes c k u e
 index_at c (suc k) (suc i) u l apart e =
@@ -67,10 +67,10 @@ module _ (m : Links) (sd : Sound m) (s last : ℕ) (sl : s < halves m) (r : Ring
   tips_differ : (a b : ℕ) → a < b → b < suc last → ¬ (to m (h a) ≡ to m (h b))
   tips_differ a b l q e = r.apart a b l q (ends_differ m sd (h a) (h b) (h_in a) (h_in b) (h_from a ∙ sym (h_from b)) e)
 
-  num_apex : (x : ℕ) → m.origin x ≡ m.origin s → num x ≡ suc last
+  pub num_apex : (x : ℕ) → m.origin x ≡ m.origin s → num x ≡ suc last
   num_apex x e = index_none (λ i. to m (h i)) (suc last) (m.origin x) (λ i l q. r4.ends (h i) (h_in i) (h_from i ∙ sym e ∙ sym q))
 
-  num_tip : (x i : ℕ) → i < suc last → m.origin x ≡ to m (h i) → num x ≡ i
+  pub num_tip : (x i : ℕ) → i < suc last → m.origin x ≡ to m (h i) → num x ≡ i
   num_tip x i l e = index_at (λ i. to m (h i)) (suc last) i (m.origin x) l tips_differ (sym e)
 
   -- ---- the face of spoke i: its corners are the apex, i and i + 1
@@ -87,10 +87,10 @@ module _ (m : Links) (sd : Sound m) (s last : ℕ) (sl : s < halves m) (r : Ring
     num0 : num (h i) ≡ suc last
     num0 = num_apex (h i) (h_from i)
 
-    num1 : num (m.next (h i)) ≡ i
+    pub num1 : num (m.next (h i)) ≡ i
     num1 = num_tip (m.next (h i)) i (omega arith) (sym (r4.joins (h i) (h_in i)))
 
-    num2 : num (m.next (m.next (h i))) ≡ suc i
+    pub num2 : num (m.next (m.next (h i))) ≡ suc i
     num2 = num_tip (m.next (m.next (h i))) (suc i) (omega arith) (third m r3 r4 r5 (h i) (h_in i) inner)
 
     num3 : num (m.next (m.next (m.next (h i)))) ≡ suc last
@@ -119,16 +119,26 @@ module _ (m : Links) (sd : Sound m) (s last : ℕ) (sl : s < halves m) (r : Ring
       go i l (inr (inl q)) = (i, l, inr (inl (sym q)))
       go i l (inr (inr q)) = (i, l, inr (inr (sym q)))
 
+  -- where a half of the star starts: at the apex, or at a tip
+  pub corner : (x : ℕ) → Live x → ((m.origin x ≡ m.origin s) × (num x ≡ suc last)) ⊎ ((i : ℕ) × (i < suc last) × (m.origin x ≡ to m (h i)) × (num x ≡ i))
+  unfolding At
+  corner x t = go (live_at x t)
+    where
+      go : At x → ((m.origin x ≡ m.origin s) × (num x ≡ suc last)) ⊎ ((i : ℕ) × (i < suc last) × (m.origin x ≡ to m (h i)) × (num x ≡ i))
+      go (i, l, inl q) = inl (ap m.origin q ∙ h_from i, ap num q ∙ num0 i l)
+      go (i, l, inr (inl q)) = inr (i, omega arith, ap m.origin q ∙ sym (r4.joins (h i) (h_in i)), ap num q ∙ num1 i l)
+      go (i, l, inr (inr q)) = inr (suc i, omega arith, ap m.origin q ∙ third m r3 r4 r5 (h i) (h_in i) (f.inner i l), ap num q ∙ num2 i l)
+
   live_of : (x i : ℕ) → i < last → x < halves m → m.face x ≡ m.face (h i) → Live x
   live_of x i l b e = (dec_and (dec_nat_lt x (halves m)) (dec_self x)).1 (b, any_in last (λ i. eqb (m.face x) (m.face (h i))) i l ((dec_eq (m.face x) (m.face (h i))).1 e))
     where
       dec_self : (x : ℕ) → Decides (any last (λ i. eqb (m.face x) (m.face (h i)))) (any last (λ i. eqb (m.face x) (m.face (h i))) ≡ true)
       dec_self x = ((λ e. e), (λ e. e))
 
-  live0 : (i : ℕ) → i < last → Live (h i)
+  pub live0 : (i : ℕ) → i < last → Live (h i)
   live0 i l = live_of (h i) i l (h_in i) refl
 
-  live1 : (i : ℕ) → i < last → Live (m.next (h i))
+  pub live1 : (i : ℕ) → i < last → Live (m.next (h i))
   live1 i l = live_of (m.next (h i)) i l (r3.next_names (h i) (h_in i)) (r4.shares (h i) (h_in i))
 
   live2 : (i : ℕ) → i < last → Live (m.next (m.next (h i)))
@@ -196,7 +206,7 @@ module _ (m : Links) (sd : Sound m) (s last : ℕ) (sl : s < halves m) (r : Ring
       over x (i, l, inr (inr q)) = subst Over (sym q) (over2 i l)
 
   -- ---- what is across from the apex
-  across_at : (x : ℕ) → Across ℕ Live m.next num last x → (i : ℕ) × (i < last) × (x ≡ m.next (h i))
+  pub across_at : (x : ℕ) → Across ℕ Live m.next num last x → (i : ℕ) × (i < last) × (x ≡ m.next (h i))
   unfolding At
   across_at x a = go (live_at x a.live)
     where
@@ -211,10 +221,23 @@ module _ (m : Links) (sd : Sound m) (s last : ℕ) (sl : s < halves m) (r : Ring
       go (i, l, inr (inl q)) = (i, l, q)
       go (i, l, inr (inr q)) = absurd (high i l (sym (num1 i l) ∙ ap (λ z. num (m.next z)) (sym (closes i l)) ∙ ap (λ z. num (m.next (m.next z))) (sym q) ∙ a.apex))
 
+  -- every face has the apex
+  pub no_below : (x : ℕ) → Below ℕ Live m.next num last x → ⊥
+  unfolding At
+  no_below x b = go (live_at x b.live)
+    where
+      high : (k : ℕ) → k ≡ suc last → k ≤ last → ⊥
+      high k e l = omega arith
+
+      go : At x → ⊥
+      go (i, l, inl q) = high (num x) (ap num q ∙ num0 i l) b.first
+      go (i, l, inr (inl q)) = high (num (m.next (m.next x))) (ap (λ z. num (m.next (m.next z))) q ∙ num3 i l) b.third
+      go (i, l, inr (inr q)) = high (num (m.next x)) (ap (λ z. num (m.next z)) q ∙ num3 i l) b.second
+
   pub unscanned : Unscanned m s last
   unfolding At
   unscanned = record {
-    done = record { only = only; left = left; right = right };
+    done = record { only = only; left = λ x b. absurd (no_below x b); right = right };
     across = λ i l. record { live = live1 i l; apex = num3 i l };
     from = num1;
     goes = num2;
@@ -229,17 +252,6 @@ module _ (m : Links) (sd : Sound m) (s last : ℕ) (sl : s < halves m) (r : Ring
         where
           same : (i j : ℕ) → suc i ≡ suc j → i ≡ j
           same i j e = omega arith
-
-      left : (x : ℕ) → Below ℕ Live m.next num last x → pos 0 ≤ℤ S (tip m s (num x)) (tip m s (num (m.next x))) (tip m s (num (m.next (m.next x))))
-      left x b = absurd (go (live_at x b.live))
-        where
-          high : (k : ℕ) → k ≡ suc last → k ≤ last → ⊥
-          high k e l = omega arith
-
-          go : At x → ⊥
-          go (i, l, inl q) = high (num x) (ap num q ∙ num0 i l) b.first
-          go (i, l, inr (inl q)) = high (num (m.next (m.next x))) (ap (λ z. num (m.next (m.next z))) q ∙ num3 i l) b.third
-          go (i, l, inr (inr q)) = high (num (m.next x)) (ap (λ z. num (m.next z)) q ∙ num3 i l) b.second
 
       right : (x y : ℕ) → Across ℕ Live m.next num last x → Across ℕ Live m.next num last y → num (m.next x) ≡ num y → num (m.next y) ≤ 0
           → S (tip m s (num x)) (tip m s (num y)) (tip m s (num (m.next y))) ≤ℤ pos 0

@@ -5,9 +5,12 @@ pub mod Roots
 pub mod Flip
 pub mod Keeps
 pub mod Renaming
+pub mod Renumbering
 pub mod MoveEdge
 pub mod MoveOne
 pub mod Cleanup
+pub mod Sweeping
+pub mod Counting
 pub mod Hole
 pub mod Ear
 pub mod FanStep

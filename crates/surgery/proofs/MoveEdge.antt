@@ -5,6 +5,7 @@ use Rattle.links.specs.Links.{Links, rev}
 use Rattle.links.proofs.Halves.{rev_even, rev_odd}
 use Rattle.surgery.specs.Update.{upd}
 use Rattle.surgery.specs.Removal.{Without, renumber, carry_edge, fix_swap, move_edge}
+use Rattle.surgery.specs.Renamed.{Renamed, Renumbered}
 use Rattle.surgery.proofs.Updates.{upd_same, rev_not, skip, cases_to}
 use Rattle.surgery.proofs.Roots.{Unrooted, Half}
 use Rattle.surgery.proofs.Renaming.{renamed}
@@ -105,25 +106,25 @@ carried q P a b c d p T dc dd cd x l =
 pub half_of : (x d : ℕ) → x / 2 ≡ d → (x ≡ 2 * d) ⊎ (x ≡ 2 * d + 1)
 half_of x d e = elim (cases_eq x (2 * d)) [ inl q ↦ inl q | inr n ↦ inr (omega arith) ]
 
-pub moved_edge : (L : Links) (V E F : ℕ → Type 0) (m d : ℕ) → E m → (E d → ⊥) → Unrooted L V E F → Unrooted (move_edge m d L) V (Without E m d) F
+-- the records after, under their new numbers
+pub edge_renamed : (L : Links) (V E F : ℕ → Type 0) (m d : ℕ) → E m → (E d → ⊥) → Unrooted L V E F
+    → Renamed L (move_edge m d L) V E F V (Without E m d) F (λ v. v) (λ v. v) (renumber m d) (renumber d m) (λ g. g) (λ g. g)
 unfolding move_edge fix_swap carry_edge
-moved_edge L V E F m d lm dead W = renamed L (move_edge m d L) V E F V E' F (λ v. v) (λ v. v) p q (λ g. g) (λ g. g)
-    (record {
-      entries = record { there = λ _ l. l; back = λ _ l. l; back_there = λ _ _. refl; there_back = λ _ _. refl };
-      halves = record { there = there; back = back; back_there = back_there; there_back = there_back };
-      faces = record { there = λ _ l. l; back = λ _ l. l; back_there = λ _ _. refl; there_back = λ _ _. refl };
-      inner = λ g _ n. n;
-      revs = revs;
-      nexts = λ x l. ap (λ k. upd (upd on (p k) g) (p (upd op (p (on g)) g c)) c (p x)) op_g ∙ ap (λ k. upd (upd on (p (L.prev b)) g) k c (p x)) read_p ∙ relink L.next L.prev (Half E) a b c g p R T x l;
-      prevs = λ x l. ap (λ k. upd (upd op (p k) g) (p (upd on (p (op g)) g c)) c (p x)) on_g ∙ ap (λ k. upd (upd op (p (L.next b)) g) k c (p x)) read_n ∙ relink L.prev L.next (Half E) a b c g p R' T x l;
-      sides = carried L.face (Half E) a b c g p T dead_c dead_g cg;
-      origins = carried L.origin (Half E) a b c g p T dead_c dead_g cg;
-      out_live = λ v l. (rooted L.origin L.out v (W.out_live v l) (W.out_origin v l)).0;
-      out_origin = λ v l. (rooted L.origin L.out v (W.out_live v l) (W.out_origin v l)).1;
-      adj_live = λ v l. (rooted L.face L.adj v (W.adj_live v l) (W.adj_face v l)).0;
-      adj_face = λ v l. (rooted L.face L.adj v (W.adj_live v l) (W.adj_face v l)).1;
-    })
-    W
+edge_renamed L V E F m d lm dead W = record {
+  entries = record { there = λ _ l. l; back = λ _ l. l; back_there = λ _ _. refl; there_back = λ _ _. refl };
+  halves = record { there = there; back = back; back_there = back_there; there_back = there_back };
+  faces = record { there = λ _ l. l; back = λ _ l. l; back_there = λ _ _. refl; there_back = λ _ _. refl };
+  inner = λ g _ n. n;
+  revs = revs;
+  nexts = λ x l. ap (λ k. upd (upd on (p k) g) (p (upd op (p (on g)) g c)) c (p x)) op_g ∙ ap (λ k. upd (upd on (p (L.prev b)) g) k c (p x)) read_p ∙ relink L.next L.prev (Half E) a b c g p R T x l;
+  prevs = λ x l. ap (λ k. upd (upd op (p k) g) (p (upd on (p (op g)) g c)) c (p x)) on_g ∙ ap (λ k. upd (upd op (p (L.next b)) g) k c (p x)) read_n ∙ relink L.prev L.next (Half E) a b c g p R' T x l;
+  sides = carried L.face (Half E) a b c g p T dead_c dead_g cg;
+  origins = carried L.origin (Half E) a b c g p T dead_c dead_g cg;
+  out_live = λ v l. (rooted L.origin L.out v (W.out_live v l) (W.out_origin v l)).0;
+  out_origin = λ v l. (rooted L.origin L.out v (W.out_live v l) (W.out_origin v l)).1;
+  adj_live = λ v l. (rooted L.face L.adj v (W.adj_live v l) (W.adj_face v l)).0;
+  adj_face = λ v l. (rooted L.face L.adj v (W.adj_live v l) (W.adj_face v l)).1;
+}
   where
     E' : ℕ → Type 0
     E' = Without E m d
@@ -258,3 +259,23 @@ moved_edge L V E F m d lm dead W = renamed L (move_edge m d L) V E F V E' F (λ 
 
         o'_g : o' g ≡ o b
         o'_g = upd_same _ g _
+
+-- which keep the link rules
+pub moved_edge : (L : Links) (V E F : ℕ → Type 0) (m d : ℕ) → E m → (E d → ⊥) → Unrooted L V E F → Unrooted (move_edge m d L) V (Without E m d) F
+moved_edge L V E F m d lm dead W = renamed _ _ V E F V _ F _ _ _ _ _ _ (edge_renamed L V E F m d lm dead W) W
+
+-- entries, faces and places stay
+pub edge_renumbered : (L : Links) (V E F : ℕ → Type 0) (m d : ℕ) → E m → (E d → ⊥) → Unrooted L V E F → Renumbered L (move_edge m d L) V E F V (Without E m d) F
+unfolding move_edge fix_swap carry_edge
+edge_renumbered L V E F m d lm dead W = record {
+  pv = λ v. v;
+  qv = λ v. v;
+  ph = renumber m d;
+  qh = renumber d m;
+  pf = λ g. g;
+  qf = λ g. g;
+  renamed = edge_renamed L V E F m d lm dead W;
+  places = λ _ _. refl;
+  outer = refl;
+  only_outer = λ _ _ q. q;
+}

@@ -1,11 +1,14 @@
 pub mod Linked
 pub mod Update
 pub mod Removal
+pub mod Sweep
 pub mod Fan
 pub mod Cut
 pub mod Ear
 pub mod Straight
 pub mod Renamed
 pub mod Alive
+pub mod Shaped
 pub mod Theorems
+pub mod Cleaned
 pub mod Sound

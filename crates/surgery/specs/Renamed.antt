@@ -1,6 +1,6 @@
 -- Records under new numbers.
 use Rattle.std.specs.Prelude.{◌≡◌, ℕ, ◌/◌, ◌≢◌}
-use Rattle.links.specs.Links.{Links, rev}
+use Rattle.links.specs.Links.{Links, rev, place}
 
 -- p takes the live records of P to those of P', and q takes them back
 pub record Names (P P' : ℕ → Type 0) (p q : ℕ → ℕ) : Type 0 where
@@ -24,3 +24,16 @@ pub record Renamed (L L' : Links) (V E F V' E' F' : ℕ → Type 0) (pv qv ph qh
   pub out_origin : (v : ℕ) → V' v → L'.origin (L'.out v) ≡ v
   pub adj_live : (g : ℕ) → F' g → E' (L'.adj g / 2)
   pub adj_face : (g : ℕ) → F' g → L'.face (L'.adj g) ≡ g
+
+-- L' is L under other numbers, with the same places, and with the outer face as before
+pub record Renumbered (L L' : Links) (V E F V' E' F' : ℕ → Type 0) : Type 0 where
+  pub pv : ℕ → ℕ
+  pub qv : ℕ → ℕ
+  pub ph : ℕ → ℕ
+  pub qh : ℕ → ℕ
+  pub pf : ℕ → ℕ
+  pub qf : ℕ → ℕ
+  pub renamed : Renamed L L' V E F V' E' F' pv qv ph qh pf qf
+  pub places : (v : ℕ) → V v → place L' (pv v) ≡ place L v
+  pub outer : pf 0 ≡ 0
+  pub only_outer : (g : ℕ) → F g → pf g ≡ 0 → g ≡ 0

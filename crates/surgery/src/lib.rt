@@ -1,6 +1,7 @@
 //! What the link rules survive: flips, cuts, fans, and the removal of dead records. Each function's contract is a theorem.
 #![tactic(auto)]
 
+ghost use Rattle.surgery.specs.Cleaned.{Cleans, CarriesOver};
 ghost use Rattle.surgery.specs.Sound.{InnerSpoked, LineLeaf, LineMiddle};
 ghost use Rattle.surgery.specs.Theorems.{Carries, Flips, Cuts, FanSteps, Straightens, Renumbers, MovesEdge, MovesFace, MovesEntry, AllLive, AllLiveBack, LiveLinked};
 
@@ -105,6 +106,20 @@ pub fn line_leaf_stands() -> u8
 // And in the midst of it.
 pub fn line_middle_stands() -> u8
     ensures { LineMiddle }
+{
+    0
+}
+
+// Removal of dead records, the highest first, only gives other numbers to what stays.
+pub fn cleans_stands() -> u8
+    ensures { Cleans }
+{
+    0
+}
+
+// Other numbers carry over the link rules, and what is said of faces and places.
+pub fn carries_over_stands() -> u8
+    ensures { CarriesOver }
 {
     0
 }

@@ -1,0 +1,65 @@
+//! The erasure of an entry as a definition over links, and what it keeps. Each function's contract is a theorem.
+#![tactic(auto)]
+
+ghost use Rattle.erasure.specs.Corpus.{SameAsRust};
+ghost use Rattle.erasure.specs.Faulty.{FaultyPorts};
+ghost use Rattle.erasure.specs.Inside.{Fills};
+ghost use Rattle.erasure.specs.Keeps.{LineKeepsSound, InsideKeepsSound, HullKeepsSound, KeepsSound};
+ghost use Rattle.erasure.specs.Region.{Legalizes};
+ghost use Rattle.erasure.specs.Worked.{WorkedErasures};
+
+// Four worked erasures.
+pub fn worked_erasures_stands() -> u8
+    ensures { WorkedErasures }
+{
+    0
+}
+
+// The definition gives the tables of the Rust on small random maps.
+pub fn same_as_rust_stands() -> u8
+    ensures { SameAsRust }
+{
+    0
+}
+
+// Three faults that a port can have break sound maps.
+pub fn faulty_ports_stands() -> u8
+    ensures { FaultyPorts }
+{
+    0
+}
+
+// An entry inside leaves a hole, and the fan fills it.
+pub fn fills_stands() -> u8
+    ensures { Fills }
+{
+    0
+}
+
+// The legalizing loop makes all edges in the hole legal, and changes nothing else.
+pub fn legalizes_stands() -> u8
+    ensures { Legalizes }
+{
+    0
+}
+
+// Where there is no inner face, the map without the entry is sound.
+pub fn line_keeps_sound_stands() -> u8
+    ensures { LineKeepsSound }
+{
+    0
+}
+
+// So is the map without an entry inside.
+pub fn inside_keeps_sound_stands() -> u8
+    ensures { InsideKeepsSound }
+{
+    0
+}
+
+// An erasure keeps every map sound, if it does where the entry is on the hull.
+pub fn only_hull_is_left_stands() -> u8
+    ensures { HullKeepsSound → KeepsSound }
+{
+    0
+}
