@@ -70,8 +70,8 @@ def as_tables(table):
 
 
 SPEC = """-- Erasures as the Rust makes them, from small random maps: places on lines and on circles, inside, on the hull, on a line.
-use Rattle.std.specs.Prelude.{◌≡◌, ℕ, List, [], ◌∷◌, Some, None, Option}
-use Rattle.erasure.specs.Compared.{Tables, tables, Erases}
+use Rattle.std.specs.Prelude.{[], ◌∷◌, Some, None}
+use Rattle.erasure.specs.Compared.{tables, Erases}
 
 """
 
@@ -97,7 +97,7 @@ def main():
     parser = argparse.ArgumentParser(description=__doc__.splitlines()[0])
     parser.add_argument("--corpus", required=True)
     parser.add_argument("--crate", required=True, type=pathlib.Path)
-    parser.add_argument("--seeds", nargs=2, type=int, default=(1, 60))
+    parser.add_argument("--seeds", nargs=2, type=int, default=(1, 40))
     parser.add_argument("--largest", type=int, default=9)
     parser.add_argument("--each", type=int, default=2)
     options = parser.parse_args()
