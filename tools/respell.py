@@ -5,7 +5,7 @@ Run once, at the top, right after the kit's port.py:  python3 tools/respell.py [
 
 A name counts as the repository's own where a file of specs/ or proofs/ binds it (answer files aside, whose names
 are made from the code). Imports from the kit, strings, comments of code and the names of src/ stay. A new name that
-the tree already has is given a trailing word instead, and said.
+the tree already has is said; the table CHOSEN then gives it another.
 """
 import collections
 import glob

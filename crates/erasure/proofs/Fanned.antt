@@ -148,8 +148,8 @@ module _ (D : Links) (V Dead Star : ℕ → Type 0) (k hole : ℕ) (b c : ℕ �
 
   -- ---- one ear more
   module _ (j : ℕ) (L : Links) (F : State j L) (more : 3 + j < k) where
-    abbrev L'' : Links
-    L'' = cut_ear L (top D b j)
+    abbrev L' : Links
+    L' = cut_ear L (top D b j)
 
     -- the last half of the hole, which leads to the first
     abbrev p : ℕ
@@ -159,7 +159,7 @@ module _ (D : Links) (V Dead Star : ℕ → Type 0) (k hole : ℕ) (b c : ℕ �
     closes = F.close (k - 1) (omega arith)
 
     -- the ear is the half from the first entry, b (j + 1) and the new half back
-    cut : Eared ℕ (back D b j) (top D b (suc j)) (top D b j) (b (suc j)) p (b (suc (suc j))) L.next L''.next rev L.origin L''.origin
+    cut : Eared ℕ (back D b j) (top D b (suc j)) (top D b j) (b (suc j)) p (b (suc (suc j))) L.next L'.next rev L.origin L'.origin
     unfolding top
     cut = ear_cut L (top D b j) (D.e + j) (b (suc j)) p (b (suc (suc j))) F.e (F.first j (omega arith))
         (sym (ap L.prev closes) ∙ F.linked.prev_next p lives) (F.rest (suc j) (omega arith) (omega arith)) closes
@@ -172,17 +172,17 @@ module _ (D : Links) (V Dead Star : ℕ → Type 0) (k hole : ℕ) (b c : ℕ �
         lives = let x = R.live (k - 1) (omega arith) in ((let q = x.0 in let e = F.e in omega arith), x.1)
 
     -- what is neither new nor at the ear's ends keeps its next
-    old_next : (h : ℕ) → h < 2 * (D.e + j) → h ≢ b (suc j) → h ≢ p → L''.next h ≡ L.next h
+    old_next : (h : ℕ) → h < 2 * (D.e + j) → h ≢ b (suc j) → h ≢ p → L'.next h ≡ L.next h
     unfolding top
     old_next h l d d' = cut.next_else h d (omega arith) d' (omega arith)
 
     -- and its start
-    old_origin : (h : ℕ) → h < 2 * (D.e + j) → L''.origin h ≡ L.origin h
+    old_origin : (h : ℕ) → h < 2 * (D.e + j) → L'.origin h ≡ L.origin h
     unfolding top
     old_origin h l = cut.lab_else h (omega arith) (omega arith)
 
     -- so does the border but for the two
-    rim_next : (a : ℕ) → a < k → a ≢ suc j → a ≢ k - 1 → L''.next (b a) ≡ L.next (b a)
+    rim_next : (a : ℕ) → a < k → a ≢ suc j → a ≢ k - 1 → L'.next (b a) ≡ L.next (b a)
     rim_next a l d d' = let x = low a l in old_next (b a) (omega arith) (apart a (suc j) l (omega arith) d) (apart a (k - 1) l (omega arith) d')
 
     -- new, or as before
@@ -190,9 +190,9 @@ module _ (D : Links) (V Dead Star : ℕ → Type 0) (k hole : ℕ) (b c : ℕ �
     up_to P a i l new old = elim (eq-or-lt_of_le (le_of_suc-le-suc l)) [ inl q ↦ subst P (sym q) new | inr h ↦ old h ]
 
     -- the link rules stay
-    linked : Unrooted L'' V (Alive L''.e Dead) (Holed L''.f Star hole)
+    linked : Unrooted L' V (Alive L'.e Dead) (Holed L'.f Star hole)
     unfolding cut_ear
-    linked = alike L'' V V (With (Alive L.e Dead) L.e) (Alive (suc L.e) Dead) (With (Holed L.f Star hole) L.f) (Holed (suc L.f) Star hole)
+    linked = alike L' V V (With (Alive L.e Dead) L.e) (Alive (suc L.e) Dead) (With (Holed L.f Star hole) L.f) (Holed (suc L.f) Star hole)
         (λ _. ((λ l. l), (λ l. l))) edges faces
         (fan_step L V (Alive L.e Dead) (Holed L.f Star hole) (top D b j) (λ l. let p = l.0 in omega arith) fresh
         (subst (λ e. Alive e Dead (top D b j / 2)) (sym F.e) (top_live j j (omega arith))) (λ q. hole_inner (sym F.hole_face ∙ q)) wide F.linked)
@@ -236,7 +236,7 @@ module _ (D : Links) (V Dead Star : ℕ → Type 0) (k hole : ℕ) (b c : ℕ �
         )
 
     -- no face of the hole becomes the outer one
-    inner : (h : ℕ) → Within D b k (suc j) h → L''.face h ≢ 0
+    inner : (h : ℕ) → Within D b k (suc j) h → L'.face h ≢ 0
     unfolding cut_ear
     inner h w =
         upd_keeps (λ z. z ≢ 0) _ (2 * L.e + 1) (L.face (top D b j)) h (λ q. hole_inner (sym F.hole_face ∙ q))
@@ -263,7 +263,7 @@ module _ (D : Links) (V Dead Star : ℕ → Type 0) (k hole : ℕ) (b c : ℕ �
         before (inr (p, l)) ne nt = inr (p, omega arith)
 
     -- a half that is not of the hole keeps its face
-    face_else : (h : ℕ) → h < 2 * D.e → ((a : ℕ) → a < k → h ≢ b a) → L''.face h ≡ D.face h
+    face_else : (h : ℕ) → h < 2 * D.e → ((a : ℕ) → a < k → h ≢ b a) → L'.face h ≡ D.face h
     unfolding cut_ear
     face_else h l d =
         let e = F.e in
@@ -271,12 +271,12 @@ module _ (D : Links) (V Dead Star : ℕ → Type 0) (k hole : ℕ) (b c : ℕ �
         (skip _ (L.next (top D b j)) _ h _ (λ q. d (suc j) (omega arith) (q ∙ F.first j (omega arith))) (skip _ (top D b j) _ h _ (top_else j h l d) (F.face_else h l d))))
 
     -- what is left has the number of the hole
-    hole_face : L''.face (top D b (suc j)) ≡ hole
+    hole_face : L'.face (top D b (suc j)) ≡ hole
     unfolding cut_ear top
     hole_face = ap (λ e. (cut_ear L (top D b j)).face (2 * e + 1)) (sym F.e) ∙ upd_same _ _ _ ∙ F.hole_face
 
     -- so it is after one ear more
-    pub one_more : State (suc j) L''
+    pub one_more : State (suc j) L'
     unfolding cut_ear
     one_more = record {
       n = F.n;
@@ -285,17 +285,17 @@ module _ (D : Links) (V Dead Star : ℕ → Type 0) (k hole : ℕ) (b c : ℕ �
       x = F.x;
       y = F.y;
       linked = linked;
-      first = λ a l. up_to (λ a. L''.next (top D b a) ≡ b (suc a)) a (suc j) (omega arith) cut.next_t
+      first = λ a l. up_to (λ a. L'.next (top D b a) ≡ b (suc a)) a (suc j) (omega arith) cut.next_t
           (λ h. old_next (top D b a) (top_low a j (omega arith)) (top_apart a (suc j) (omega arith) (omega arith)) (top_apart a (k - 1) (omega arith) (omega arith)) ∙ F.first a (omega arith));
-      second = λ a l. up_to (λ a. L''.next (b (suc a)) ≡ back D b a) a j l cut.next_o (λ h. rim_next (suc a) (omega arith) (omega arith) (omega arith) ∙ F.second a h);
-      third = λ a l. up_to (λ a. L''.next (back D b a) ≡ top D b a) a j l cut.next_e
+      second = λ a l. up_to (λ a. L'.next (b (suc a)) ≡ back D b a) a j l cut.next_o (λ h. rim_next (suc a) (omega arith) (omega arith) (omega arith) ∙ F.second a h);
+      third = λ a l. up_to (λ a. L'.next (back D b a) ≡ top D b a) a j l cut.next_e
           (λ h. old_next (back D b a) (omega arith) (λ q. high a (suc j) (omega arith) q) (λ q. high a (k - 1) (omega arith) q) ∙ F.third a h);
       rest = λ a l h. rim_next a (omega arith) (omega arith) (omega arith) ∙ F.rest a (omega arith) h;
-      close = λ a l. ap (λ a. L''.next (b a)) (let q : a ≡ k - 1 = omega arith in q) ∙ cut.next_p;
+      close = λ a l. ap (λ a. L'.next (b a)) (let q : a ≡ k - 1 = omega arith in q) ∙ cut.next_p;
       from = λ a l. (let x = low a l in old_origin (b a) (omega arith)) ∙ F.from a l;
-      top_from = λ a l. up_to (λ a. L''.origin (top D b a) ≡ c 0) a (suc j) (omega arith) (cut.lab_t ∙ F.top_from j (omega arith))
+      top_from = λ a l. up_to (λ a. L'.origin (top D b a) ≡ c 0) a (suc j) (omega arith) (cut.lab_t ∙ F.top_from j (omega arith))
           (λ h. old_origin (top D b a) (top_low a j (omega arith)) ∙ F.top_from a (omega arith));
-      back_from = λ a l. up_to (λ a. L''.origin (back D b a) ≡ c (suc (suc a))) a j l (cut.lab_e ∙ F.from (suc (suc j)) (omega arith)) (λ h. old_origin (back D b a) (omega arith) ∙ F.back_from a h);
+      back_from = λ a l. up_to (λ a. L'.origin (back D b a) ≡ c (suc (suc a))) a j l (cut.lab_e ∙ F.from (suc (suc j)) (omega arith)) (λ h. old_origin (back D b a) (omega arith) ∙ F.back_from a h);
       hole_face = hole_face;
       inner = inner;
       next_else = λ h l d. old_next h (omega arith) (d (suc j) (omega arith)) (d (k - 1) (omega arith)) ∙ F.next_else h l d;

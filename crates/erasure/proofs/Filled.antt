@@ -195,7 +195,7 @@ module _ (m : Links) (sd : Sound m) (f1 : 1 < m.f) (v : ℕ) (vl : v < m.n) (inn
   fenced : Fenced H L (λ x. ltb x m.e)
   unfolding rev
   fenced = record {
-    border = λ L'' _ _ h l out e. absurd (both_ways (H.inside (rev h)) out ((inside_is (rev h)).1 (inr (other h ((inside_is h).0 l) (ltb-false (h / 2) m.e e)))));
+    border = λ L' _ _ h l out e. absurd (both_ways (H.inside (rev h)) out ((inside_is (rev h)).1 (inr (other h ((inside_is h).0 l) (ltb-false (h / 2) m.e e)))));
     free = λ h p q. le-ltb (h / 2) m.e (new_edge h p q).0;
   }
     where

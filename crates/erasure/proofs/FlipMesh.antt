@@ -11,9 +11,9 @@ use Rattle.surgery.proofs.Flip as Flip
 use Rattle.erasure.specs.Legalize.{flip_cw}
 
 -- what a flip leaves in the links, it leaves in the mesh
-pub mesh_flip : (f : ℕ → ℕ) (L L'' : Links) (e t en ep tn tp : ℕ) → Flip.Flipped L L'' e t en ep tn tp
-    → Flipped ℕ e t en ep tn tp L.next L''.next (λ h. f (L.origin h)) (λ h. f (L''.origin h))
-mesh_flip f L L'' e t en ep tn tp F = record {
+pub mesh_flip : (f : ℕ → ℕ) (L L' : Links) (e t en ep tn tp : ℕ) → Flip.Flipped L L' e t en ep tn tp
+    → Flipped ℕ e t en ep tn tp L.next L'.next (λ h. f (L.origin h)) (λ h. f (L'.origin h))
+mesh_flip f L L' e t en ep tn tp F = record {
   next_e = F.next_e;
   next_tp = F.next_tp;
   next_en = F.next_en;

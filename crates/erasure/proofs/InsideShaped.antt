@@ -97,8 +97,8 @@ module _ (m : Links) (sd : Sound m) (v : ℕ) (vl : v < m.n) (n2 : 2 ≤ m.n) (i
       low (inr f) = absurd (both_ways (ltb h (2 * (m.e + (spokes m v - 3)))) f (lt-ltb h (2 * (m.e + (spokes m v - 3))) (omega arith)))
 
   -- what flips in the hole leave as it is
-  pub around_framed : (L L'' : Links) → AroundHole m v L → Framed (inner_hole m v) L L'' → AroundHole m v L''
-  around_framed L L'' A G = record {
+  pub around_framed : (L L' : Links) → AroundHole m v L → Framed (inner_hole m v) L L' → AroundHole m v L'
+  around_framed L L' A G = record {
     ring = A.ring;
     three = A.three;
     n = G.n ∙ A.n;

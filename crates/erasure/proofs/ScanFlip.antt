@@ -16,11 +16,11 @@ unfolding rev
 either_half h = elim (cases_eq (h % 2) 0) [ inl q ↦ inl (omega arith) | inr n ↦ inr (omega arith) ]
 
 -- what the flip of an edge gives, seen from its half e
-pub record Turned (H : Hole) (L L'' : Links) (e : ℕ) : Type 0 where
-  pub region : Region H L''
-  pub framed : Framed H L L''
-  pub mesh : Flipped ℕ e (rev e) (L.next e) (L.next (L.next e)) (L.next (rev e)) (L.next (L.next (rev e))) L.next L''.next (label H L) (label H L'')
-  pub origins : (h : ℕ) → h ≢ e → h ≢ rev e → L''.origin h ≡ L.origin h
+pub record Turned (H : Hole) (L L' : Links) (e : ℕ) : Type 0 where
+  pub region : Region H L'
+  pub framed : Framed H L L'
+  pub mesh : Flipped ℕ e (rev e) (L.next e) (L.next (L.next e)) (L.next (rev e)) (L.next (L.next (rev e))) L.next L'.next (label H L) (label H L')
+  pub origins : (h : ℕ) → h ≢ e → h ≢ rev e → L'.origin h ≡ L.origin h
 
 module _ (H : Hole) (L : Links) (R : Region H L) where
   by_half : (e : ℕ) → Inside H e → Inside H (rev e) → (H.turning ≡ true → ⊥) → Turned H L (flip L e) e
@@ -32,13 +32,13 @@ module _ (H : Hole) (L : Links) (R : Region H L) where
   }
 
   -- the same, seen from the other half
-  other_half : (L'' : Links) (e g : ℕ) → rev g ≡ e → Turned H L L'' e → Turned H L L'' g
-  other_half L'' e g q t = record {
+  other_half : (L' : Links) (e g : ℕ) → rev g ≡ e → Turned H L L' e → Turned H L L' g
+  other_half L' e g q t = record {
     region = t.region;
     framed = t.framed;
-    mesh = subst (λ x. Flipped ℕ x (rev g) (L.next x) (L.next (L.next x)) (L.next (rev g)) (L.next (L.next (rev g))) L.next L''.next (label H L) (label H L'')) (sym back)
-        (subst (λ x. Flipped ℕ (rev e) x (L.next (rev e)) (L.next (L.next (rev e))) (L.next x) (L.next (L.next x)) L.next L''.next (label H L) (label H L'')) (sym q)
-        (by_twin ℕ e (rev e) _ _ _ _ L.next L''.next (label H L) (label H L'') t.mesh));
+    mesh = subst (λ x. Flipped ℕ x (rev g) (L.next x) (L.next (L.next x)) (L.next (rev g)) (L.next (L.next (rev g))) L.next L'.next (label H L) (label H L')) (sym back)
+        (subst (λ x. Flipped ℕ (rev e) x (L.next (rev e)) (L.next (L.next (rev e))) (L.next x) (L.next (L.next x)) L.next L'.next (label H L) (label H L')) (sym q)
+        (by_twin ℕ e (rev e) _ _ _ _ L.next L'.next (label H L) (label H L') t.mesh));
     origins = λ h a b. t.origins h (λ r. b (r ∙ sym q)) (λ r. a (r ∙ sym back));
   }
     where

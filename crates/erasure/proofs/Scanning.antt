@@ -164,14 +164,14 @@ module _ (m : Links) (s last : ℕ) where
       below_is = P.stacked.only (L.next (L.next g)) below over_back over_below (ap (lab L) (R.mesh.three g ig) ∙ lab_g ∙ sym starts)
 
       -- the flip
-      abbrev L'' : Links
-      L'' = flip_cw L (g / 2)
+      abbrev L' : Links
+      L' = flip_cw L (g / 2)
 
-      T : Turned H L L'' g
+      T : Turned H L L' g
       T = turned H L R g ig lt (λ q. never q)
 
-      sc : Scanned ℕ (Inside H) L.next L''.next rev (lab L) (lab L'') last g
-      sc = scan_step H.inside L.next rev (lab L) last H.border R.mesh L''.next (lab L'') g ig lt (goes_to H L R g ig) (comes_from H L R g lt) T.mesh apex
+      sc : Scanned ℕ (Inside H) L.next L'.next rev (lab L) (lab L') last g
+      sc = scan_step H.inside L.next rev (lab L) last H.border R.mesh L'.next (lab L') g ig lt (goes_to H L R g ig) (comes_from H L R g lt) T.mesh apex
 
       -- halves of the strip before the one below are others
       lower : (x b : ℕ) → Over L x → lab L (L.next x) ≡ b → b ≤ lab L below → (x ≢ L.next (L.next g)) × (x ≢ L.next (rev g))
@@ -185,12 +185,12 @@ module _ (m : Links) (s last : ℕ) where
           no : (a b : ℕ) → a ≡ b → a < b → ⊥
           no a b e l = omega arith
 
-      strip_stays : (l : List ℕ) (b : ℕ) → b ≤ lab L below → Strip L l b → Strip L'' l b
+      strip_stays : (l : List ℕ) (b : ℕ) → b ≤ lab L below → Strip L l b → Strip L' l b
       strip_stays [] b h q = q
       strip_stays (x ∷ l) b h (o, q, r) =
           let n = lower x b o q h in
           let t = sc.others x o n.0 n.1 in
-          (t.0, t.2 ∙ q, subst (Strip L'' l) (sym t.1) (strip_stays l (lab L x) (let u = over_rises L R x o in omega arith) r))
+          (t.0, t.2 ∙ q, subst (Strip L' l) (sym t.1) (strip_stays l (lab L x) (let u = over_rises L R x o in omega arith) r))
 
       top_rises : (lab L top < lab L (L.next top)) × (lab L (L.next top) ≤ last)
       top_rises = over_rises L R top P.stacked.across
@@ -199,19 +199,19 @@ module _ (m : Links) (s last : ℕ) where
       below_rises = over_rises L R below over_below
 
       -- the flipped edge starts below j
-      g_starts : lab L'' g ≡ lab L below
+      g_starts : lab L' g ≡ lab L below
       g_starts = sc.from ∙ ap (lab L) below_is
 
-      flat' : (h : ℕ) → Over L'' h → j ≤ lab L'' h → lab L'' (L''.next h) ≡ suc (lab L'' h)
+      flat' : (h : ℕ) → Over L' h → j ≤ lab L' h → lab L' (L'.next h) ≡ suc (lab L' h)
       flat' h o b = elim (sc.every h o) [
-        | inl q ↦ absurd (no (lab L'' h) (lab L below) (lab L top) (ap (lab L'') q ∙ g_starts) (subst (λ x. lab L below < x) starts below_rises.0) (subst (λ x. lab L top < x) P.stacked.leads top_rises.0) b)
+        | inl q ↦ absurd (no (lab L' h) (lab L below) (lab L top) (ap (lab L') q ∙ g_starts) (subst (λ x. lab L below < x) starts below_rises.0) (subst (λ x. lab L top < x) P.stacked.leads top_rises.0) b)
         | inr u ↦ let t = sc.others h u.0 u.1 u.2 in t.2 ∙ P.kept.flat h u.0 (subst (λ x. j ≤ x) t.1 b) ∙ ap suc (sym t.1)
       ]
         where
           no : (a b c : ℕ) → a ≡ b → b < c → c < j → j ≤ a → ⊥
           no a b c e p q r = omega arith
 
-      ahead' : (i : ℕ) → j ≤ i → i < last → (L''.origin (spoke m s i) ≡ m.origin s) × (L''.origin (rev (spoke m s i)) ≡ to m (spoke m s i))
+      ahead' : (i : ℕ) → j ≤ i → i < last → (L'.origin (spoke m s i) ≡ m.origin s) × (L'.origin (rev (spoke m s i)) ≡ to m (spoke m s i))
       ahead' i h b = (T.origins (spoke m s i) not_g not_rev ∙ o.0, T.origins (rev (spoke m s i)) (λ q. not_rev (rev_is (spoke m s i) g q)) (λ q. not_g (sym (rev_rev (spoke m s i)) ∙ ap rev q ∙ rev_rev g)) ∙ o.1)
         where
           o : (L.origin (spoke m s i) ≡ m.origin s) × (L.origin (rev (spoke m s i)) ≡ to m (spoke m s i))
@@ -232,8 +232,8 @@ module _ (m : Links) (s last : ℕ) where
           not_rev : spoke m s i ≢ rev g
           not_rev q = low (lab L (rev (spoke m s i))) (lab L top) (ap (lab L) (ap rev q ∙ rev_rev g) ∙ lab_g) (ap (numbering m s last) o.1 ∙ tip_num i b) top_low
 
-      flipped' : (h : ℕ) → Inside H h → Low L'' (rev h) → contains ((g / 2) ∷ tl) (h / 2) ≡ true
-      flipped' h i b = go (below_was ℕ ℕ_discrete (Inside H) L.next rev (lab L) (suc (suc last)) (λ a b. H.border a b ≡ true) R.mesh L''.next (lab L'') g ig lt (goes_to H L R g ig) (comes_from H L R g lt) T.mesh last apex (rev h) b)
+      flipped' : (h : ℕ) → Inside H h → Low L' (rev h) → contains ((g / 2) ∷ tl) (h / 2) ≡ true
+      flipped' h i b = go (below_was ℕ ℕ_discrete (Inside H) L.next rev (lab L) (suc (suc last)) (λ a b. H.border a b ≡ true) R.mesh L'.next (lab L') g ig lt (goes_to H L R g ig) (comes_from H L R g lt) T.mesh last apex (rev h) b)
         where
           -- h is the other half of what was across from the apex
           across : (x : ℕ) → rev h ≡ x → Over L x → contains ((g / 2) ∷ tl) (h / 2) ≡ true
@@ -249,7 +249,7 @@ module _ (m : Links) (s last : ℕ) where
           go (inr (inr (inr o))) = contains_tail (g / 2) tl (h / 2) (P.kept.flipped h i o)
 
       -- the face that is cut off
-      cut_low : Low L'' (rev g)
+      cut_low : Low L' (rev g)
       cut_low = record {
         live = lt;
         first = subst (λ x. x ≤ last) (sym (sc.cut_off.0 ∙ ap (λ x. lab L (L.next x)) top_is)) top_rises.1;
@@ -257,19 +257,19 @@ module _ (m : Links) (s last : ℕ) where
         third = subst (λ x. x ≤ last) (sym (sc.cut_off.2 ∙ lab_g)) (let r = top_rises in omega arith);
       }
 
-      low_stays : (h : ℕ) → Low L h → Low L'' h
-      low_stays = below_stays ℕ ℕ_discrete (Inside H) L.next rev (lab L) (suc (suc last)) (λ a b. H.border a b ≡ true) R.mesh L''.next (lab L'') g ig lt (goes_to H L R g ig) (comes_from H L R g lt) T.mesh last apex
+      low_stays : (h : ℕ) → Low L h → Low L' h
+      low_stays = below_stays ℕ ℕ_discrete (Inside H) L.next rev (lab L) (suc (suc last)) (λ a b. H.border a b ≡ true) R.mesh L'.next (lab L') g ig lt (goes_to H L R g ig) (comes_from H L R g lt) T.mesh last apex
 
-      sided' : (k : ℕ) → contains ((g / 2) ∷ tl) k ≡ true → Low L'' (2 * k) ⊎ Low L'' (rev (2 * k))
+      sided' : (k : ℕ) → contains ((g / 2) ∷ tl) k ≡ true → Low L' (2 * k) ⊎ Low L' (rev (2 * k))
       sided' k q = elim (contains_cons (g / 2) tl k q) [
-        | inl e ↦ subst (λ z. Low L'' (2 * z) ⊎ Low L'' (rev (2 * z))) e (elim (either_half g) [
-          | inl r ↦ inr (subst (λ z. Low L'' (rev z)) (sym r) cut_low)
-          | inr r ↦ inl (subst (Low L'') (sym r) cut_low)
+        | inl e ↦ subst (λ z. Low L' (2 * z) ⊎ Low L' (rev (2 * z))) e (elim (either_half g) [
+          | inl r ↦ inr (subst (λ z. Low L' (rev z)) (sym r) cut_low)
+          | inr r ↦ inl (subst (Low L') (sym r) cut_low)
         ])
         | inr c ↦ elim (P.kept.sided k c) [ inl x ↦ inl (low_stays (2 * k) x) | inr x ↦ inr (low_stays (rev (2 * k)) x) ]
       ]
 
-      full' : (h : ℕ) → Over L'' h → lab L'' (L''.next h) ≤ j → (h ≡ g) ⊎ (contains l h ≡ true)
+      full' : (h : ℕ) → Over L' h → lab L' (L'.next h) ≤ j → (h ≡ g) ⊎ (contains l h ≡ true)
       full' h o b = elim (sc.every h o) [
         | inl q ↦ inl q
         | inr u ↦ inr (old u)
@@ -297,20 +297,20 @@ module _ (m : Links) (s last : ℕ) where
       turn : pos 0 <ℤ S (place L (L.origin below)) (place L (to L below)) (place L (to L top)) → pos 0 <ℤ S (tip m s (lab L (L.next (L.next g)))) (tip m s (lab L g)) (tip m s j)
       turn h = subst (λ z. pos 0 <ℤ z) (sides ∙ (λ i. S (tip m s (lab L (sym below_is i))) (tip m s (sym lab_g i)) (tip m s j))) h
 
-      next_putting : pos 0 <ℤ S (place L (L.origin below)) (place L (to L below)) (place L (to L top)) → Putting j L'' ((g / 2) ∷ tl) g l
+      next_putting : pos 0 <ℤ S (place L (L.origin below)) (place L (to L below)) (place L (to L top)) → Putting j L' ((g / 2) ∷ tl) g l
       next_putting h = record {
         kept = record {
           region = T.region;
-          framed = framed_then H m L L'' P.kept.framed T.framed;
+          framed = framed_then H m L L' P.kept.framed T.framed;
           flat = flat';
           ahead = ahead';
           flipped = flipped';
           sided = sided';
           none = inr (rev g, cut_low);
         };
-        stacked = scan_flip H.inside L.next rev (lab L) (tip m s) last j H.border R.mesh L''.next (lab L'') g ig lt (goes_to H L R g ig) (comes_from H L R g lt) T.mesh apex
+        stacked = scan_flip H.inside L.next rev (lab L) (tip m s) last j H.border R.mesh L'.next (lab L') g ig lt (goes_to H L R g ig) (comes_from H L R g lt) T.mesh apex
             (subst (Stacked ℕ (Inside H) L.next (lab L) (tip m s) last j) (sym top_is) P.stacked) (turn h);
-        strip = subst (Strip L'' l) (sym g_starts) (strip_stays l (lab L below) (omega arith) P.strip.2);
+        strip = subst (Strip L' l) (sym g_starts) (strip_stays l (lab L below) (omega arith) P.strip.2);
         full = full';
         few = let f = P.few in omega arith;
       }

@@ -52,20 +52,20 @@ module _ (H : Hole) where
     pub sided : (k : ℕ) → contains l k ≡ true → Inside (2 * k) ⊎ Inside (rev (2 * k))
 
   -- nothing changes but the links of halves in the hole, and roots
-  pub record Framed (L L'' : Links) : Type 0 where
-    pub n : L''.n ≡ L.n
-    pub e : L''.e ≡ L.e
-    pub f : L''.f ≡ L.f
-    pub x : (v : ℕ) → L''.x v ≡ L.x v
-    pub y : (v : ℕ) → L''.y v ≡ L.y v
-    pub next : (h : ℕ) → H.inside h ≡ false → L''.next h ≡ L.next h
-    pub prev : (h : ℕ) → H.inside h ≡ false → L''.prev h ≡ L.prev h
-    pub face : (h : ℕ) → H.inside h ≡ false → L''.face h ≡ L.face h
-    pub origin : (h : ℕ) → H.inside h ≡ false → L''.origin h ≡ L.origin h
+  pub record Framed (L L' : Links) : Type 0 where
+    pub n : L'.n ≡ L.n
+    pub e : L'.e ≡ L.e
+    pub f : L'.f ≡ L.f
+    pub x : (v : ℕ) → L'.x v ≡ L.x v
+    pub y : (v : ℕ) → L'.y v ≡ L.y v
+    pub next : (h : ℕ) → H.inside h ≡ false → L'.next h ≡ L.next h
+    pub prev : (h : ℕ) → H.inside h ≡ false → L'.prev h ≡ L.prev h
+    pub face : (h : ℕ) → H.inside h ≡ false → L'.face h ≡ L.face h
+    pub origin : (h : ℕ) → H.inside h ≡ false → L'.origin h ≡ L.origin h
 
   -- the border is not flipped, and what lies in the hole is not kept
   pub record Fenced (L : Links) (keep : ℕ → Bool) : Type 0 where
-    pub border : (L'' : Links) → Region L'' → Framed L L'' → (h : ℕ) → Inside h → H.inside (rev h) ≡ false → keep (h / 2) ≡ false → should_flip L'' (h / 2) ≡ false
+    pub border : (L' : Links) → Region L' → Framed L L' → (h : ℕ) → Inside h → H.inside (rev h) ≡ false → keep (h / 2) ≡ false → should_flip L' (h / 2) ≡ false
     pub free : (h : ℕ) → Inside h → Inside (rev h) → keep (h / 2) ≡ false
 
   -- volumes over o are not negative, and not too large
@@ -73,7 +73,7 @@ module _ (H : Hole) where
     pub low : (a b c : ℕ) → Cyc H.size a b c → pos 0 ≤ℤ C (H.p a) (H.p b) (H.p c) H.o
     pub high : (a b c : ℕ) → Cyc H.size a b c → C (H.p a) (H.p b) (H.p c) H.o ≤ℤ pos (2 ^ 60)
 
--- the loop makes all edges in the hole legal, and changes nothing else
+-- the loop makes all edges in the hole legal, and changes nothing outside it but roots
 abbrev pub Legalizes : Type 0
 Legalizes =
     (H : Hole) (L : Links) (l : List ℕ) (keep : ℕ → Bool) → Region H L → Listed H L l → Fenced H L keep → Voluminous H → L.f ≤ 65536 → length l ≤ 65536

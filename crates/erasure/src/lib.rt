@@ -15,7 +15,7 @@ pub fn worked_erasures_stands() -> u8
     0
 }
 
-// The definition gives the tables of the Rust on small random maps.
+// The definition gives the tables of the Rust in 32 cases from small random maps.
 pub fn same_as_rust_stands() -> u8
     ensures { SameAsRust }
 {
@@ -36,7 +36,7 @@ pub fn fills_stands() -> u8
     0
 }
 
-// The legalizing loop makes all edges in the hole legal, and changes nothing else.
+// The legalizing loop makes all edges in the hole legal, and changes nothing outside it but roots.
 pub fn legalizes_stands() -> u8
     ensures { Legalizes }
 {
@@ -50,7 +50,7 @@ pub fn line_keeps_sound_stands() -> u8
     0
 }
 
-// So is the map without an entry inside.
+// So is a map without an entry that lay inside.
 pub fn inside_keeps_sound_stands() -> u8
     ensures { InsideKeepsSound }
 {

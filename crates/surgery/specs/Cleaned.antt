@@ -24,6 +24,6 @@ Cleans =
 -- other numbers carry over the link rules, and what is said of faces and places
 abbrev pub CarriesOver : Type 0
 CarriesOver =
-    (L L'' : Links) (V E F V' E' F' : ℕ → Bool) (m : ℕ) → Below E m → Renumbered L L'' (On V) (On E) (On F) (On V') (On E') (On F')
+    (L L' : Links) (V E F V' E' F' : ℕ → Bool) (m : ℕ) → Below E m → Renumbered L L' (On V) (On E) (On F) (On V') (On E') (On F')
     → Linked L (On V) (On E) (On F)
-    → Linked L'' (On V') (On E') (On F') × (Shaped L (On V) (On E) → Shaped L'' (On V') (On E')) × (Ruled L (On V) (On E) → Ruled L'' (On V') (On E'))
+    → Linked L' (On V') (On E') (On F') × (Shaped L (On V) (On E) → Shaped L' (On V') (On E')) × (Ruled L (On V) (On E) → Ruled L' (On V') (On E'))

@@ -1,4 +1,4 @@
--- The steps of the two walks undo each other, stay among the halves, and keep their subject.
+-- The steps of the two walks stay among the halves and keep their subject. (That rotation is undone is in specs/Undone.antt.)
 use Rattle.std.specs.Prelude.{◌≡◌, ℕ, zero, suc, ◌<◌, ◌≤◌, refl}
 use Rattle.std.proofs.Common.{◌∙◌, ap, subst, arith}
 use Rattle.links.specs.Links.{Links, rev, halves, cw, ccw, walk}
