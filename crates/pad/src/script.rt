@@ -12,7 +12,11 @@ pub struct Script<'a> {
 }
 
 impl<'a> Script<'a> {
-    pub fn new(text: &'a [u8]) -> Script<'a> {
+    /// The whole text is still to be read.
+    pub fn new(text: &'a [u8]) -> Script<'a>
+        ensures rest { result.rest.now ≡ text.now }
+        ensures line { result.line ≡ 0 }
+    {
         Script {
             rest: text,
             line: 0,

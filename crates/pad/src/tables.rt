@@ -1,4 +1,6 @@
 // What a script does to a draft and shows of a map.
+ghost use Rattle.std.specs.Prelude.{◌≤◌, IfOk};
+
 use crate::complaint::{Complaint, Trouble};
 use crate::kind::Written;
 use crate::script::Words;
@@ -32,7 +34,9 @@ fn number_or<'a>(
 }
 
 /// `draft N E F [TN TE TF [LEN]]`
-pub fn read_request<'a>(words: &mut Words<'a>) -> Result<Request, Complaint<'a>> {
+pub fn read_request<'a>(words: &mut Words<'a>) -> Result<Request, Complaint<'a>>
+    ensures { IfOk result (λ request. request.len ≤ MOST) }
+{
     let n = words.number::<u32>("number of entries")?;
     let e = words.number::<u32>("number of edges")?;
     let f = words.number::<u32>("number of faces")?;
