@@ -11,7 +11,7 @@ use Rattle.std.specs.Float.Ieee.Compare.{differs_from_itself, nan_differs}
 use Rattle.std.proofs.lemmas.Bool.Decides.{nat_tests, eqb_tells}
 use Rattle.entry.specs.declared.fault.Cause.{Cause}
 use Rattle.entry.specs.declared.fault.Cause.TheVariants.{NotANumber, BelowZero, AboveMost, Fraction}
-use Rattle.entry.specs.Within.{err_ok, fin_ok}
+use Rattle.entry.specs.Within.{never, err_ok, fin_ok}
 use Rattle.entry.specs.Reading.{float_reading, outside, zero_float, most_float}
 
 abbrev Zero : Float
@@ -33,9 +33,6 @@ holds h = subst T (sym h) tt
 
 pub nan_read : (x : Float) → ne x x ≡ true → Err NotANumber ≡ float_reading x
 nan_read x h = ap float_reading (sym (differs_from_itself x (holds h)))
-
-never : {A : Type 0} → false ≡ true → A
-never h = absurd (subst T (sym h) tt)
 
 positive : (m u d : ℕ) → 0 < m * u * 1 + 0 * d → 0 < m
 positive zero u d h = omega arith

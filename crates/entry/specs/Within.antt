@@ -8,7 +8,7 @@ use Rattle.entry.specs.declared.fault.Cause.{Cause}
 use Rattle.entry.specs.declared.fault.Cause.TheVariants.{BelowZero, AboveMost, Fraction}
 use Rattle.entry.specs.Reading.{float_reading, sized}
 
-never : {A : Type 0} → false ≡ true → A
+pub never : {A : Type 0} → false ≡ true → A
 never h = absurd (subst T (sym h) tt)
 
 is_err : Result ℕ Cause → Bool
