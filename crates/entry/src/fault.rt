@@ -1,4 +1,4 @@
-//! Why an entry has no place.
+//! Why an entry has no place, and that a number has no record.
 ghost use Rattle.std.specs.Prelude.{◌≡◌, Some};
 ghost use Rattle.entry.specs.Faults.{axis_number, axis_text, cause_number, cause_text, fault_text};
 
@@ -100,5 +100,17 @@ impl fmt::Display for EntryFault {
         let axis = self.axis;
         let cause = self.cause;
         write!(f, "{axis} {cause}")
+    }
+}
+
+/// No record has this number.
+#[derive(Clone, Copy, PartialEq, Eq, Debug)]
+pub struct NoRecord<N> {
+    pub number: N,
+}
+
+impl<N: fmt::Display> fmt::Display for NoRecord<N> {
+    fn fmt<W: fmt::Write>(&self, f: &mut fmt::Formatter<W>) -> fmt::Result {
+        write!(f, "fault 9 number {}", self.number)
     }
 }

@@ -9,7 +9,7 @@ pub mod point;
 pub mod preset;
 pub mod scalar;
 
-pub use fault::{Axis, Cause, EntryFault};
+pub use fault::{Axis, Cause, EntryFault, NoRecord};
 pub use kind::{Entry, HasPosition, Position};
 pub use name::{Name, pack_name};
 pub use placing::{grid_place, place};
