@@ -1,11 +1,13 @@
 -- When the halves of a number are one cycle, and when not.
-use Rattle.std.proofs.Common.{◌≡◌, ℕ, zero, suc, ◌<◌, ◌≤◌, Bool, true, false, cond, not, ◌&&◌, eqb, ltb, Some, None, sym, refl, ap, ◌∙◌, subst, inl, inr, le_of_suc-le-suc, not-suc-le-zero, eq-or-lt_of_le, arith}
+use Rattle.std.proofs.Common.{◌≡◌, ℕ, zero, suc, ◌<◌, ◌≤◌, Bool, true, false, cond, not, ◌&&◌, eqb, ltb, Some, None, sym, refl, ap, ◌∙◌, subst, inl, inr, le_of_suc-le-suc, not-suc-le-zero, eq-or-lt_of_le, arith, ltb-false, Option}
+use Rattle.std.specs.Bool.{then_some}
+use Rattle.std.specs.Option.{unwrap_or}
 use Rattle.links.specs.Links.{Links, halves}
 use Rattle.links.specs.Tests.{all, implies}
 use Rattle.links.specs.Rings.{own, home, whole, lower, Loose}
 use Rattle.links.specs.Verdict.{failing}
 use Rattle.links.proofs.Decide.{dec_eq, dec_nat_lt, never, below_next}
-use Rattle.links.proofs.First.{none_failing, first_failing_is}
+use Rattle.links.proofs.First.{none_failing, first_failing_is, Lowest, found_is}
 
 all_yes : (k : ℕ) (t : ℕ → Bool) → ((i : ℕ) → i < k → t i ≡ true) → all k t ≡ true
 all_yes zero t h = refl
@@ -29,6 +31,17 @@ implied false b h = refl
 and_no : (a b : Bool) → b ≡ false → (a && b) ≡ false
 and_no true b e = e
 and_no false b e = refl
+
+-- the search for a cycle that is not its own tells the lowest
+pub loose_from : (owner root : ℕ → ℕ) (count : ℕ) (o : Option ℕ) → o ≡ failing count (λ k. own owner k (root k)) → Loose owner root count (unwrap_or o count)
+loose_from owner root count o e = go o (subst (Lowest count (λ k. own owner k (root k))) (sym e) (found_is count (λ k. own owner k (root k))))
+  where
+    irrefl : (z : ℕ) → z < z → ⊥
+    irrefl z l = omega (arith, l)
+
+    go : (o : Option ℕ) → Lowest count (λ k. own owner k (root k)) o → Loose owner root count (unwrap_or o count)
+    go None h = (omega arith, h, (λ l. absurd (irrefl count l)))
+    go (Some i) h = (omega (arith, h.0), h.2, (λ _. h.1))
 
 module _ (m : Links) (step owner root : ℕ → ℕ) where
   pub is_whole : (k : ℕ) → own owner k (root k) ≡ true → ((h : ℕ) → h < halves m → owner h ≡ k → home step (halves m) (root k) h ≡ true) → whole m step owner root k ≡ true
@@ -88,5 +101,12 @@ module _ (m : Links) (step owner root : ℕ → ℕ) where
   found_none count low f b = none_failing count (whole m step owner root) (λ k l. all_whole count low f k (omega arith))
 
   -- all halves are seen
-  pub at_end : (count low h k : ℕ) → k ≡ halves m → k ≤ h → Found count low h → Found count low (halves m)
-  at_end count low h k e l f = record { within = f.within; owns = f.owns; breaks = f.breaks; leads = λ i b. f.leads i (omega arith) }
+  pub at_end : (count low h k : ℕ) → k ≡ halves m → k ≤ h → Found count low h → then_some (ltb low count) low ≡ failing count (whole m step owner root)
+  at_end count low h k e l f = go (ltb low count) refl
+    where
+      seen : Found count low (halves m)
+      seen = record { within = f.within; owns = f.owns; breaks = f.breaks; leads = λ i b. f.leads i (omega arith) }
+
+      go : (b : Bool) → ltb low count ≡ b → then_some b low ≡ failing count (whole m step owner root)
+      go true p = sym (found_some count low seen ((dec_nat_lt low count).0 p))
+      go false p = sym (found_none count low seen (ltb-false low count p))

@@ -1,14 +1,14 @@
 -- The lowest number at which a test fails, by what holds of it.
-use Rattle.std.proofs.Common.{◌≡◌, ℕ, zero, suc, ◌<◌, ◌≤◌, Bool, true, false, not, eqb, Some, None, Ok, Err, Option, Result, sym, refl, ap, ◌∙◌, subst, inl, inr, le_of_suc-le-suc, not-suc-le-zero, eq-or-lt_of_le, arith, le-ltb, lt-ltb}
+use Rattle.std.proofs.Common.{◌≡◌, ℕ, zero, suc, ◌<◌, ◌≤◌, Bool, true, false, not, eqb, Some, None, Ok, Err, Option, Result, sym, refl, ap, ◌∙◌, subst, inl, inr, le_of_suc-le-suc, not-suc-le-zero, eq-or-lt_of_le, arith, le-ltb, lt-ltb, ltb, ltb-false}
+use Rattle.std.specs.Prelude.{MatchOption}
 use Rattle.std.specs.Option.{option_map, option_or}
 use Rattle.std.specs.Bool.{then_some}
 use Rattle.links.specs.Links.{Links, walk}
 use Rattle.links.specs.Tests.{implies, reaches, single, twins}
 use Rattle.entry.specs.declared.fault.EntryFault.{EntryFault}
 use Rattle.links.specs.declared.fault.CheckFault.{CheckFault}
-use Rattle.links.specs.declared.fault.Site.{Site}
-use Rattle.links.specs.Verdict.{failing, failing2, broken, each, pairs, told, rule2, unplaced}
-use Rattle.links.proofs.Decide.{any_in, any_out, dec_eq}
+use Rattle.links.specs.Verdict.{failing, failing2, told, rule2, unplaced}
+use Rattle.links.proofs.Decide.{any_in, any_out, below_next, dec_eq, dec_nat_lt}
 
 pub none_failing : (k : ℕ) (t : ℕ → Bool) → ((i : ℕ) → i < k → t i ≡ true) → failing k t ≡ None
 none_failing zero t h = refl
@@ -34,6 +34,45 @@ first_failing2 (suc k) l t i j b h e =
       | inr c ↦ ap (λ o. option_or o (option_map (λ d. (k, d)) (failing l (t k)))) (first_failing2 k l t i j c h e)
     ]
 
+-- ---- what a search finds, by what its tests said
+-- over the numbers from s up to k, where each test said what t says, and t holds before s
+pub failing_from : (s k : ℕ) (t : ℕ → Bool) (Said : ℕ → Bool → Type 0) → ((i : ℕ) → i < s → t i ≡ true) → ((i : ℕ) (b : Bool) → s ≤ i → i < k → Said i b → b ≡ t i)
+    → (r : Option ℕ) → MatchOption r ((i : ℕ) → s ≤ i → i < k → Said i true) (λ i. (s ≤ i) × (i < k) × Said i false × ((j : ℕ) → s ≤ j → j < i → Said j true)) → r ≡ failing k t
+failing_from s k t Said early is None h = sym (none_failing k t (λ i l. go i l (ltb i s) refl))
+  where
+    go : (i : ℕ) → i < k → (b : Bool) → ltb i s ≡ b → t i ≡ true
+    go i l true p = early i ((dec_nat_lt i s).0 p)
+    go i l false p = let a = ltb-false i s p in sym (is i true a l (h i a l))
+failing_from s k t Said early is (Some i) h = sym (first_failing_is k t i h.1 (λ j l. go j l (ltb j s) refl) (sym (is i false h.0 h.1 h.2)))
+  where
+    before : (j : ℕ) → j < i → i < k → j < k
+    before j a b = omega (arith, a, b)
+
+    go : (j : ℕ) → j < i → (b : Bool) → ltb j s ≡ b → t j ≡ true
+    go j l true p = early j ((dec_nat_lt j s).0 p)
+    go j l false p = let a = ltb-false j s p in sym (is j true a (before j l h.1) (h.3 j a l))
+
+-- over all numbers below k
+pub failing_by : (k : ℕ) (t : ℕ → Bool) (Said : ℕ → Bool → Type 0) → ((i : ℕ) (b : Bool) → i < k → Said i b → b ≡ t i)
+    → (r : Option ℕ) → MatchOption r ((i : ℕ) → 0 ≤ i → i < k → Said i true) (λ i. (0 ≤ i) × (i < k) × Said i false × ((j : ℕ) → 0 ≤ j → j < i → Said j true)) → r ≡ failing k t
+failing_by k t Said is = failing_from 0 k t Said (λ i l. absurd (never i l)) (λ i b a l s. is i b l s)
+  where
+    never : (i : ℕ) → i < 0 → ⊥
+    never i l = omega (arith, l)
+
+-- the answer o of a search below k: it fails at the number found, and passes before it
+abbrev pub Lowest : ℕ → (ℕ → Bool) → Option ℕ → Type 0
+Lowest k t o = MatchOption o ((i : ℕ) → i < k → t i ≡ true) (λ i. (i < k) × (t i ≡ false) × ((j : ℕ) → j < i → t j ≡ true))
+
+pub found_is : (k : ℕ) (t : ℕ → Bool) → Lowest k t (failing k t)
+found_is zero t = λ i l. absurd (not-suc-le-zero l)
+found_is (suc k) t = go (failing k t) (found_is k t) (t k) refl
+  where
+    go : (o : Option ℕ) → Lowest k t o → (b : Bool) → t k ≡ b → Lowest (suc k) t (option_or o (then_some (not b) k))
+    go (Some i) h b e = (omega (arith, h.0), h.1, h.2)
+    go None h true e = below_next (λ i. t i ≡ true) k h e
+    go None h false e = (omega arith, e, h)
+
 -- ---- reaching
 pub reaches_yes : (step : ℕ → ℕ) (bound s h j : ℕ) → j < bound → walk step j s ≡ h → reaches step bound s h ≡ true
 reaches_yes step bound s h j l e = any_in bound (λ i. eqb (walk step i s) h) j l ((dec_eq (walk step j s) h).1 e)
@@ -51,20 +90,6 @@ single_early m k l h = ap (λ b. implies b (not (twins m k l))) (le-ltb k l h)
 
 pub single_now : (m : Links) (k l : ℕ) (b : Bool) → k < l → twins m k l ≡ b → single m k l ≡ not b
 single_now m k l b h e = ap (λ a. implies a (not (twins m k l))) (lt-ltb k l h) ∙ ap not e
-
--- ---- the answers of clauses
-pub each_none : (r c : ℕ) (a : ℕ → Site) (k : ℕ) (t : ℕ → Bool) → ((i : ℕ) → i < k → t i ≡ true) → told (each r c a k t) ≡ Ok tt
-each_none r c a k t h = ap (λ o. told (option_map (λ i. broken r c (a i)) o)) (none_failing k t h)
-
-pub each_first : (r c : ℕ) (a : ℕ → Site) (k : ℕ) (t : ℕ → Bool) (i : ℕ) → i < k → ((j : ℕ) → j < i → t j ≡ true) → t i ≡ false → told (each r c a k t) ≡ Err (broken r c (a i))
-each_first r c a k t i l h e = ap (λ o. told (option_map (λ i. broken r c (a i)) o)) (first_failing_is k t i l h e)
-
-pub pairs_none : (r c : ℕ) (a : ℕ → ℕ → Site) (k l : ℕ) (t : ℕ → ℕ → Bool) → ((i : ℕ) → i < k → failing l (t i) ≡ None) → told (pairs r c a k l t) ≡ Ok tt
-pairs_none r c a k l t h = ap (λ o. told (option_map (λ p. broken r c (a p.0 p.1)) o)) (none_failing2 k l t h)
-
-pub pairs_first : (r c : ℕ) (a : ℕ → ℕ → Site) (k l : ℕ) (t : ℕ → ℕ → Bool) (i j : ℕ) → i < k → ((b : ℕ) → b < i → failing l (t b) ≡ None) → failing l (t i) ≡ Some j
-    → told (pairs r c a k l t) ≡ Err (broken r c (a i j))
-pairs_first r c a k l t i j b h e = ap (λ o. told (option_map (λ p. broken r c (a p.0 p.1)) o)) (first_failing2 k l t i j b h e)
 
 -- ---- the places of a shelf
 pub rule2_none : (n : ℕ) (spot : ℕ → Result (ℕ × ℕ) EntryFault) → ((v : ℕ) → v < n → unplaced v (spot v) ≡ None) → rule2 n spot ≡ None

@@ -8,4 +8,5 @@ pub mod Numbers
 pub mod Law
 pub mod Kept
 pub mod Shelf
+pub mod Views
 pub mod Worked

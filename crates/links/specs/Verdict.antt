@@ -4,10 +4,6 @@ use Rattle.std.specs.Option.{option_map, option_or}
 use Rattle.std.specs.Bool.{then_some}
 use Rattle.entry.specs.declared.fault.EntryFault.{EntryFault}
 use Rattle.links.specs.declared.fault.CheckFault.{CheckFault}
-use Rattle.links.specs.declared.fault.Kind.{Kind}
-use Rattle.links.specs.declared.fault.Kind.TheVariants.{Entry as Kind-as-Entry, Half as Kind-as-Half, Edge as Kind-as-Edge, Face as Kind-as-Face}
-use Rattle.links.specs.declared.fault.Pair.{Pair}
-use Rattle.links.specs.declared.fault.Pair.TheVariants.{EdgeEdge as Pair-as-EdgeEdge, EdgeEntry as Pair-as-EdgeEntry, HalfEntry as Pair-as-HalfEntry, FaceEntry as Pair-as-FaceEntry}
 use Rattle.links.specs.declared.fault.Site.{Site}
 use Rattle.links.specs.declared.fault.Site.TheVariants.{Whole, Entry, Half, Edge, Face, Unplaced, Edges, EdgeEntry, HalfEntry, FaceEntry}
 use Rattle.links.specs.declared.shape.Shape.{Shape}
@@ -24,20 +20,6 @@ failing (suc k) t = option_or (failing k t) (then_some (not (t k)) k)
 abbrev pub failing2 : ℕ → ℕ → (ℕ → ℕ → Bool) → Option (ℕ × ℕ)
 failing2 zero l t = None
 failing2 (suc k) l t = option_or (failing2 k l t) (option_map (λ j. (k, j)) (failing l (t k)))
-
--- the record of a kind, by its number
-abbrev pub site_of : Kind → ℕ → Site
-site_of Kind-as-Entry = Entry
-site_of Kind-as-Half = Half
-site_of Kind-as-Edge = Edge
-site_of Kind-as-Face = Face
-
--- the records of a kind of pair, by their numbers
-abbrev pub pair_of : Pair → ℕ → ℕ → Site
-pair_of Pair-as-EdgeEdge = Edges
-pair_of Pair-as-EdgeEntry = EdgeEntry
-pair_of Pair-as-HalfEntry = HalfEntry
-pair_of Pair-as-FaceEntry = FaceEntry
 
 -- a fault
 abbrev pub broken : ℕ → ℕ → Site → CheckFault

@@ -1,54 +1,37 @@
 //! The check of a draft's tables against a shelf.
-ghost use Rattle.std.specs.Prelude.{◌≡◌, ◌^◌, ◌<◌, ◌≤◌, ◌↔◌, length, take, Ok};
+ghost use Rattle.std.specs.Prelude.{◌≡◌, ◌≤◌, ◌↔◌, None, length, take, Ok};
 ghost use Rattle.std.specs.Option.{option_or};
-ghost use Rattle.links.specs.Law.{EveryPlace};
 ghost use Rattle.links.specs.Shelf.{answer, FitsShelf, seen, spot_at};
 ghost use Rattle.links.specs.Tables.{size};
-ghost use Rattle.links.specs.Verdict.{link_rules, rule2, told, unplaced};
+ghost use Rattle.links.specs.Verdict.{link_rules, place_rules, rule2, told};
+ghost use Rattle.links.specs.Views.{seen_in};
 
-use crate::fault::{CheckFault, Site};
-use crate::places::rules_5_to_8;
-use crate::rules::{rule_1, rule_3, rule_4};
+use crate::fault::CheckFault;
+use crate::rules::{rule_1, rule_2, rule_3, rule_4, rule_5, rule_6, rule_7, rule_8};
+use crate::seen::Seen;
 use crate::shape::Shape;
 use crate::tables::Tables;
-use entry::{HasPosition, place};
+use entry::HasPosition;
 
-/// An entry has a place.
-fn place_at<E: HasPosition>(entries: &[E], v: u32) -> Result<(), CheckFault>
-    requires { v < length entries.now }
-    ensures { result ≡ told (unplaced v (spot_at E.Scalar.reading E.across E.along entries.now v)) }
+/// The rules on places.
+fn check_places<E: HasPosition>(m: &Seen<'_, E>) -> Result<(), CheckFault>
+    ensures { result ≡ told (place_rules (seen_in E.Scalar.reading E.across E.along m.now.tables m.now.entries.now)) }
 {
-    match place(&entries[v as usize]) {
-        Ok(_) => Ok(()),
-        Err(fault) => Err(CheckFault {
-            rule: 2,
-            clause: 1,
-            site: Site::Unplaced(v, fault),
-        }),
-    }
-}
-
-/// Every entry has a place.
-fn rule_2<E: HasPosition>(entries: &[E]) -> Result<(), CheckFault>
-    requires { length entries.now < 2 ^ 32 }
-    ensures { result ≡ told (rule2 (length entries.now) (spot_at E.Scalar.reading E.across E.along entries.now)) }
-{
-    for v in 0..entries.len() as u32 {
-        place_at(entries, v)?;
-    }
-    Ok(())
+    rule_5(m)?;
+    rule_6(m)?;
+    rule_7(m)?;
+    rule_8(m)
 }
 
 /// The rules of links and places.
 fn check_links<E: HasPosition>(t: Tables<'_>, entries: &[E]) -> Result<(), CheckFault>
-    requires placed { EveryPlace (length entries.now) (spot_at E.Scalar.reading E.across E.along entries.now) }
-    requires counts { length entries.now ≡ t.shape.n }
-    requires sized { (t.shape.n ≤ 4096) × ((t.shape.e ≤ 12288) × (t.shape.f ≤ 8192)) }
-    ensures { result ≡ told (link_rules (seen E.Scalar.reading E.across E.along t.entry.words.now t.entry.shape entries.now)) }
+    requires counted { length entries.now ≡ t.shape.n }
+    requires placed { rule2 (length entries.now) (spot_at E.Scalar.reading E.across E.along entries.now) ≡ None }
+    ensures { result ≡ told (link_rules (seen_in E.Scalar.reading E.across E.along t.entry entries.now)) }
 {
     rule_3(t)?;
     rule_4(t)?;
-    rules_5_to_8(t, entries)
+    check_places(&Seen::new(t, entries))
 }
 
 /// The rules after the first, once there is room.
@@ -58,13 +41,12 @@ fn check_entries<E: HasPosition>(
     entries: &[E],
 ) -> Result<(), CheckFault>
     requires holds { size shape ≤ length words.now }
-    requires counts { length entries.now ≡ shape.n }
-    requires sized { (shape.n ≤ 4096) × ((shape.e ≤ 12288) × (shape.f ≤ 8192)) }
+    requires small { (shape.n ≤ 4096) × ((shape.e ≤ 12288) × (shape.f ≤ 8192)) }
+    requires counted { length entries.now ≡ shape.n }
     ensures { result ≡ told (option_or (rule2 (length entries.now) (spot_at E.Scalar.reading E.across E.along entries.now)) (link_rules (seen E.Scalar.reading E.across E.along words.now shape entries.now))) }
 {
     rule_2(entries)?;
-    let t = Tables::new(words, shape);
-    check_links(t, entries)
+    check_links(Tables::new(words, shape), entries)
 }
 
 /// The first n entries of a shelf.
@@ -73,7 +55,7 @@ pub fn first_entries<E>(shelf: &[E], n: usize) -> &[E]
     ensures items { result.now ≡ take n shelf.now }
     ensures len { length result.now ≡ n }
 {
-    &shelf[0..n]
+    &shelf[..n]
 }
 
 /// The rules in order.

@@ -1,7 +1,6 @@
 //! What a check answers of a draft that is not sound.
 ghost use Rattle.std.specs.Prelude.{◌≡◌};
 ghost use Rattle.links.specs.Numbers.{numbers_of};
-ghost use Rattle.links.specs.Verdict.{pair_of, site_of};
 
 use entry::EntryFault;
 use std::fmt;
@@ -44,12 +43,11 @@ pub struct FaultNumbers {
     pub cause: u8,
 }
 
-impl CheckFault {
-    /// The fault in numbers.
-    pub fn numbers(self) -> FaultNumbers
-        ensures { result ≡ numbers_of self }
-    {
-        let (kind, index, other_kind, other_index) = match self.site {
+impl From<CheckFault> for FaultNumbers {
+    ghost from_gives = { λ fault numbers. numbers ≡ numbers_of fault };
+
+    fn from(fault: CheckFault) -> FaultNumbers {
+        let (kind, index, other_kind, other_index) = match fault.site {
             Site::Whole => (0, 0, 0, 0),
             Site::Entry(v) => (1, v, 0, 0),
             Site::Half(h) => (2, h, 0, 0),
@@ -61,65 +59,19 @@ impl CheckFault {
             Site::HalfEntry(h, v) => (2, h, 1, v),
             Site::FaceEntry(k, v) => (4, k, 1, v),
         };
-        let (axis, cause) = match self.site {
-            Site::Unplaced(_, fault) => (fault.axis.number(), fault.cause.number()),
+        let (axis, cause) = match fault.site {
+            Site::Unplaced(_, why) => (why.axis.number(), why.cause.number()),
             _ => (0, 0),
         };
         FaultNumbers {
-            rule: self.rule,
-            clause: self.clause,
+            rule: fault.rule,
+            clause: fault.clause,
             kind,
             index,
             other_kind,
             other_index,
             axis,
             cause,
-        }
-    }
-}
-
-/// The kinds of record.
-#[derive(Clone, Copy)]
-pub enum Kind {
-    Entry,
-    Half,
-    Edge,
-    Face,
-}
-
-impl Kind {
-    /// The record of this kind and number.
-    pub fn site(self, i: u32) -> Site
-        ensures { result ≡ site_of self i }
-    {
-        match self {
-            Kind::Entry => Site::Entry(i),
-            Kind::Half => Site::Half(i),
-            Kind::Edge => Site::Edge(i),
-            Kind::Face => Site::Face(i),
-        }
-    }
-}
-
-/// The kinds of pairs of records.
-#[derive(Clone, Copy)]
-pub enum Pair {
-    EdgeEdge,
-    EdgeEntry,
-    HalfEntry,
-    FaceEntry,
-}
-
-impl Pair {
-    /// The records of these numbers.
-    pub fn site(self, i: u32, j: u32) -> Site
-        ensures { result ≡ pair_of self i j }
-    {
-        match self {
-            Pair::EdgeEdge => Site::Edges(i, j),
-            Pair::EdgeEntry => Site::EdgeEntry(i, j),
-            Pair::HalfEntry => Site::HalfEntry(i, j),
-            Pair::FaceEntry => Site::FaceEntry(i, j),
         }
     }
 }
@@ -143,9 +95,6 @@ impl fmt::Display for Site {
 
 impl fmt::Display for CheckFault {
     fn fmt<W: fmt::Write>(&self, f: &mut fmt::Formatter<W>) -> fmt::Result {
-        let rule = self.rule;
-        let clause = self.clause;
-        let site = self.site;
-        write!(f, "fault {rule} clause {clause}{site}")
+        write!(f, "fault {} clause {}{}", self.rule, self.clause, self.site)
     }
 }

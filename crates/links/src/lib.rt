@@ -2,14 +2,13 @@
 #![tactic(auto)]
 
 mod checking;
-mod clause;
 mod copy;
 mod fault;
-mod places;
-mod region;
+mod half;
 mod rings;
 mod rules;
 mod search;
+mod seen;
 mod settle;
 mod shape;
 mod tables;
@@ -17,7 +16,8 @@ mod theorems;
 
 pub use checking::check;
 pub use fault::{CheckFault, FaultNumbers, Site};
-pub use settle::{settle_tables, shape_after};
+pub use half::rev;
+pub use settle::settle_tables;
 pub use shape::Shape;
 pub use tables::{NONE, look};
 pub use theorems::{accepted_if_sound_stands, worked_maps_stands};

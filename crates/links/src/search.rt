@@ -1,43 +1,24 @@
-//! The lowest record at which a clause fails.
-ghost use Rattle.std.specs.Prelude.{◌≡◌, ◌^◌, ◌≤◌};
-ghost use Rattle.links.specs.Tables.{held};
-ghost use Rattle.links.specs.Verdict.{failing, each, site_of, told};
+//! The lowest record, or pair of records, at which a test fails.
+ghost use Rattle.std.specs.Prelude.{◌≡◌, ℕ, ◌<◌, Bool, Option};
+ghost use Rattle.links.specs.Verdict.{failing, failing2};
 
-use crate::clause::Clause;
-use crate::fault::{CheckFault, Kind};
-use crate::tables::Tables;
+/// The lowest number below `count` at which a test fails.
+pub fn first_failing<T: Fn(u32) -> bool>(count: u32, test: T) -> Option<u32>
+    requires { T.IsAlwaysCallable test }
+    ensures { (t : ℕ → Bool) → ((i : ℕ) (b : Bool) → i < count → T.post test i b → b ≡ t i) → result ≡ failing count t }
+{
+    (0..count).find(|i| !test(*i))
+}
 
-/// The lowest number below `count` at which the clause fails.
-fn first_failing<C: Clause>(clause: &C, t: Tables<'_>, count: u32) -> Option<u32>
-    requires { count ≤ 2 ^ 31 }
-    ensures { result ≡ failing count (C.test (held t.entry.words.now t.entry.shape)) }
+/// The lowest pair at which a test fails: its first number is below `count`, and its second is what `second` finds for that.
+pub fn first_pair<S: Fn(u32) -> Option<u32>>(count: u32, second: S) -> Option<(u32, u32)>
+    requires { S.IsAlwaysCallable second }
+    ensures { (l : ℕ) (t : ℕ → ℕ → Bool) → ((i : ℕ) (o : Option ℕ) → i < count → S.post second i o → o ≡ failing l (t i)) → result ≡ failing2 count l t }
 {
     for i in 0..count {
-        if !clause.holds(t, i) {
-            return Some(i);
+        if let Some(j) = second(i) {
+            return Some((i, j));
         }
     }
     None
-}
-
-/// Tries a clause at each of `count` records of a kind.
-pub fn try_each<C: Clause>(
-    clause: &C,
-    t: Tables<'_>,
-    kind: Kind,
-    count: u32,
-    rule: u8,
-    number: u8,
-) -> Result<(), CheckFault>
-    requires { count ≤ 2 ^ 31 }
-    ensures { result ≡ told (each rule number (site_of kind) count (C.test (held t.entry.words.now t.entry.shape))) }
-{
-    match first_failing(clause, t, count) {
-        None => Ok(()),
-        Some(i) => Err(CheckFault {
-            rule,
-            clause: number,
-            site: kind.site(i),
-        }),
-    }
 }

@@ -1,6 +1,6 @@
 //! Settling: tables that are judged, and completed by the places of the shelf.
 ghost use Rattle.std.specs.Prelude.{◌≡◌, take};
-ghost use Rattle.links.specs.Kept.{Kept, emptied, shape_after_check, words_after_check};
+ghost use Rattle.links.specs.Kept.{Kept, shape_after_check, words_after_check};
 ghost use Rattle.links.specs.Shelf.{answer, spot_at};
 ghost use Rattle.links.specs.Verdict.{told};
 
@@ -9,30 +9,6 @@ use crate::copy::copy_places;
 use crate::fault::CheckFault;
 use crate::shape::Shape;
 use entry::HasPosition;
-
-/// The shape of an empty map over the same tables.
-fn empty_shape(s: Shape) -> Shape
-    ensures { result ≡ emptied s }
-{
-    Shape {
-        n: 0,
-        e: 0,
-        f: 1,
-        entries: s.entries,
-        edges: s.edges,
-        faces: s.faces,
-    }
-}
-
-/// The shape that settle leaves.
-pub fn shape_after(verdict: Result<(), CheckFault>, s: Shape) -> Shape
-    ensures { result ≡ shape_after_check verdict s }
-{
-    match verdict {
-        Ok(()) => s,
-        Err(_) => empty_shape(s),
-    }
-}
 
 /// Judges tables with a shelf, and writes the shelf's places beside the links where they are accepted.
 pub fn settle_tables<E: HasPosition>(
@@ -45,11 +21,7 @@ pub fn settle_tables<E: HasPosition>(
     ensures words { words.new ≡ words_after_check result words.old (spot_at E.Scalar.reading E.across E.along (take shape.n shelf.now)) shape.n }
     ensures sound { ∥ Kept words.new (shape_after_check result shape) ∥₁ }
 {
-    match check(words, shape, shelf, count) {
-        Ok(()) => {
-            copy_places(words, first_entries(shelf, shape.n as usize));
-            Ok(())
-        }
-        Err(fault) => Err(fault),
-    }
+    check(words, shape, shelf, count)?;
+    copy_places(words, first_entries(shelf, shape.n as usize));
+    Ok(())
 }

@@ -1,6 +1,9 @@
 //! How many records there are, and how many the tables can hold.
 ghost use Rattle.std.specs.Prelude.{◌≡◌};
+ghost use Rattle.links.specs.Kept.{emptied as empty_of};
 ghost use Rattle.links.specs.Tables.{size as words};
+
+use std::fmt;
 
 /// Counts of entries, edges and faces, and the length of each table in records.
 #[derive(Clone, Copy, PartialEq, Eq)]
@@ -19,5 +22,23 @@ impl Shape {
         ensures { result ≡ words self }
     {
         3 * self.entries as usize + 8 * self.edges as usize + self.faces as usize
+    }
+
+    /// The shape of an empty map over the same tables: no record in use but the outer face.
+    pub fn emptied(self) -> Shape
+        ensures { result ≡ empty_of self }
+    {
+        Shape {
+            n: 0,
+            e: 0,
+            f: 1,
+            ..self
+        }
+    }
+}
+
+impl fmt::Display for Shape {
+    fn fmt<W: fmt::Write>(&self, f: &mut fmt::Formatter<W>) -> fmt::Result {
+        write!(f, "n {} e {} f {}", self.n, self.e, self.f)
     }
 }

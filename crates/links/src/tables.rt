@@ -1,35 +1,42 @@
 //! The link tables, lent to be read.
-ghost use Rattle.std.specs.Prelude.{◌≡◌, ◌<◌, ◌≤◌, length};
-ghost use Rattle.links.specs.Tables.{looked, size, of_entry, of_half, of_face};
+ghost use Rattle.std.specs.Prelude.{◌≡◌, ◌≤◌, length};
+ghost use Rattle.links.specs.Tables.{looked, size};
 
 use crate::shape::Shape;
 
-/// A link that leads nowhere.
+/// A link that leads nowhere: the number that the tables hold in its place.
 pub const NONE: u32 = 4294967295;
 
 /// The number at a place of the slice, if it belongs to its table; else none.
 pub fn look(words: &[u32], in_table: bool, at: usize) -> u32
     ensures { result ≡ looked words.now in_table at }
 {
-    if in_table && at < words.len() {
-        words[at]
-    } else {
-        NONE
+    match words.get(at) {
+        Some(word) if in_table => *word,
+        _ => NONE,
     }
 }
 
-/// A slice that holds the tables of a shape.
+/// A slice that holds the tables of a shape whose counts a map may have.
 #[derive(Clone, Copy)]
 pub struct Tables<'a> {
     words: &'a [u32],
     shape: Shape,
     ghost holds: { size shape ≤ length words.now },
+    ghost small: { (shape.n ≤ 4096) × ((shape.e ≤ 12288) × (shape.f ≤ 8192)) },
 }
 
 impl<'a> Tables<'a> {
-    /// The tables, if the slice holds them.
+    ghost use Rattle.std.specs.Prelude.{◌≡◌, ◌+◌, ◌*◌, ◌<◌, ◌≤◌, length};
+    ghost use Rattle.links.specs.Links.{halves as half_count};
+    ghost use Rattle.links.specs.Tables.{of_half};
+    ghost use Rattle.links.specs.Tests.{named, rooted};
+    ghost use Rattle.links.specs.Views.{held_in};
+
+    /// The tables, if the slice holds them and the counts are small enough.
     pub fn new(words: &'a [u32], shape: Shape) -> Tables<'a>
-        requires { size shape ≤ length words.now }
+        requires holds { size shape ≤ length words.now }
+        requires small { (shape.n ≤ 4096) × ((shape.e ≤ 12288) × (shape.f ≤ 8192)) }
         ensures words { result.words.now ≡ words.now }
         ensures shape { result.shape ≡ shape }
     {
@@ -42,6 +49,14 @@ impl<'a> Tables<'a> {
         self.shape
     }
 
+    /// How many halves there are.
+    pub fn halves(self) -> u32
+        ensures { result ≡ half_count (held_in self.entry) }
+    {
+        2 * self.shape.e
+    }
+
+    /// A number of a half's record, by its place there; none past the table.
     fn half(self, field: usize, h: u32) -> u32
         requires { field < 4 }
         ensures { result ≡ of_half self.entry.words.now self.entry.shape field h }
@@ -54,31 +69,31 @@ impl<'a> Tables<'a> {
     }
 
     pub fn next(self, h: u32) -> u32
-        ensures { result ≡ of_half self.entry.words.now self.entry.shape 0 h }
+        ensures { result ≡ (held_in self.entry).next h }
     {
         self.half(0, h)
     }
 
     pub fn prev(self, h: u32) -> u32
-        ensures { result ≡ of_half self.entry.words.now self.entry.shape 1 h }
+        ensures { result ≡ (held_in self.entry).prev h }
     {
         self.half(1, h)
     }
 
     pub fn face(self, h: u32) -> u32
-        ensures { result ≡ of_half self.entry.words.now self.entry.shape 2 h }
+        ensures { result ≡ (held_in self.entry).face h }
     {
         self.half(2, h)
     }
 
     pub fn origin(self, h: u32) -> u32
-        ensures { result ≡ of_half self.entry.words.now self.entry.shape 3 h }
+        ensures { result ≡ (held_in self.entry).origin h }
     {
         self.half(3, h)
     }
 
     pub fn out_edge(self, v: u32) -> u32
-        ensures { result ≡ of_entry self.entry.words.now self.entry.shape 2 v }
+        ensures { result ≡ (held_in self.entry).out v }
     {
         if v < self.shape.entries {
             self.words[3 * v as usize + 2]
@@ -88,7 +103,7 @@ impl<'a> Tables<'a> {
     }
 
     pub fn adjacent_edge(self, k: u32) -> u32
-        ensures { result ≡ of_face self.entry.words.now self.entry.shape k }
+        ensures { result ≡ (held_in self.entry).adj k }
     {
         if k < self.shape.faces {
             let edges = 8 * self.shape.edges as usize;
@@ -96,5 +111,49 @@ impl<'a> Tables<'a> {
         } else {
             NONE
         }
+    }
+
+    /// A number of both halves of an edge, by its place in a half's record; none past the table.
+    fn edge(self, field: usize, k: u32) -> (u32, u32)
+        requires { field < 4 }
+        ensures first { result.0 ≡ of_half self.entry.words.now self.entry.shape field (2 * k) }
+        ensures second { result.1 ≡ of_half self.entry.words.now self.entry.shape field (2 * k + 1) }
+    {
+        if k < self.shape.edges {
+            let at = 3 * self.shape.entries as usize + 8 * k as usize + field;
+            (self.words[at], self.words[at + 4])
+        } else {
+            (NONE, NONE)
+        }
+    }
+
+    /// The origins of an edge's halves.
+    pub fn ends(self, k: u32) -> (u32, u32)
+        ensures first { result.0 ≡ (held_in self.entry).origin (2 * k) }
+        ensures second { result.1 ≡ (held_in self.entry).origin (2 * k + 1) }
+    {
+        self.edge(3, k)
+    }
+
+    /// The faces of an edge's halves.
+    pub fn sides(self, k: u32) -> (u32, u32)
+        ensures first { result.0 ≡ (held_in self.entry).face (2 * k) }
+        ensures second { result.1 ≡ (held_in self.entry).face (2 * k + 1) }
+    {
+        self.edge(2, k)
+    }
+
+    /// Whether a link that may be none names an existing half.
+    pub fn names(self, link: u32) -> bool
+        ensures { result ≡ named (held_in self.entry) link }
+    {
+        link == NONE || link < self.halves()
+    }
+
+    /// Whether a link is present just where n is 2 or more.
+    pub fn is_rooted(self, link: u32) -> bool
+        ensures { result ≡ rooted (held_in self.entry) link }
+    {
+        (link != NONE) == (self.shape.n >= 2)
     }
 }

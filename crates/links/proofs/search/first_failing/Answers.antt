@@ -1,10 +1,9 @@
-use Rattle.std.proofs.Common.{sym, lt_of_lt_of_le}
-use Rattle.links.proofs.First.{none_failing, first_failing_is}
+use Rattle.std.proofs.Common.{rules, true, false}
+use Rattle.std.proofs.lemmas.Iterator.{first_from_Range}
+use Rattle.links.proofs.First.{failing_by}
 use Rattle.links.proofs.search.first_failing.Goals as goal
 
-pub returns-then-not-holds : goal.returns-then-not-holds
-returns-then-not-holds g c =
-    sym (first_failing_is c.args.count _ c.loop-i.i c.loop-i-test.true c.loop-i.invariant (sym c.if-not-holds.ensures))
-
 pub returns : goal.returns
-returns g c = sym (none_failing c.args.count _ (λ i l. c.loop-i.invariant i (lt_of_lt_of_le l c.loop-i-test.false)))
+returns g c t is =
+    failing_by c.args.count t (goal.T-post g c.args.test) is c.find.result
+    (first_from_Range _ _ _ c.find.result (λ i. goal.T-post g c.args.test i false) (λ i. goal.T-post g c.args.test i true) c.find.ensures.ran (λ x q k. search rules) (λ x q k. search rules))

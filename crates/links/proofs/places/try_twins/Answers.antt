@@ -1,9 +1,0 @@
-use Rattle.std.proofs.Common.{◌≡◌, subst}
-use Rattle.links.specs.Shelf.{seen}
-use Rattle.links.specs.Tests.{single}
-use Rattle.links.specs.Verdict.{told, pairs}
-use Rattle.links.specs.declared.fault.Site.TheVariants as site
-use Rattle.links.proofs.places.try_twins.Goals as goal
-
-pub returns : goal.returns
-returns g c = subst (λ s. c.try_pairs.result ≡ told (pairs 6 2 site.Edges s.e c.args.t.shape.e (single (seen g.E.Scalar.GridScalar.reading g.E.HasPosition.across g.E.HasPosition.along c.args.t.words.now c.args.t.shape c.args.entries.now)))) c.shape.ensures c.try_pairs.ensures
