@@ -1,6 +1,7 @@
 -- A float with the value z, against zero.
-use Rattle.std.proofs.Common.{◌≡◌, ℕ, zero, suc, ◌+◌, ◌*◌, ◌^◌, ◌<◌, ◌≤◌, Bool, true, false, not, ◌&&◌, ◌||◌, eqb, ℤ, pos, negsuc, ◌*ℤ◌, neg_ℤ, nat_abs, sym, refl, ap, ◌∙◌, ap₂, mul-pos, mul-one, arith, le-ltb, lt-ltb, eq-eqb, ne_eqb, le-leb}
+use Rattle.std.proofs.Common.{◌≡◌, ℕ, zero, suc, ◌+◌, ◌*◌, ◌^◌, ◌<◌, ◌≤◌, Bool, true, false, not, ◌&&◌, ◌||◌, eqb, ℤ, pos, negsuc, ◌*ℤ◌, neg_ℤ, nat_abs, sym, refl, ap, ◌∙◌, ap₂, mul-pos, mul-one, arith, le-ltb, lt-ltb, eq-eqb, ne_eqb, le-leb, to_z, of_z, to_z-of_z, SFits, w64}
 use mathlib.Core.Bool.{beq}
+use mathlib.Core.Path.{subst⁻¹}
 use lib.IntN.{neg_ℤ-neg_ℤ}
 use lib.Signed.{lt_z, le_z}
 use lib.Ieee.{Float, nan, inf, fin, binary64, up, down, below, level, of_bits, lt, le, eq, neg, of_int, round}
@@ -156,8 +157,11 @@ of_size (fin t m e) s n h =
     let w : m * up e ≡ n * down e = sym (mul-one (m * up e)) ∙ h.1 in
     ap (λ b. signed b (m * up e)) h.0 ∙ ap (signed s) w ∙ signed_mul s n (down e)
 
--- up to 2 ^ 53 a whole number is a float
-pub is_exact : (z : ℤ) → nat_abs z ≤ 2 ^ 53 → Value (of_int binary64 z) z
+exact : (z : ℤ) → nat_abs z ≤ 2 ^ 53 → Value (of_int binary64 z) z
 unfolding of_int
-is_exact (pos n) h = of_size (round binary64 false n 1) false n (round_whole binary64 false n h)
-is_exact (negsuc n) h = of_size (round binary64 true (suc n) 1) true (suc n) (round_whole binary64 true (suc n) h)
+exact (pos n) h = of_size (round binary64 false n 1) false n (round_whole binary64 false n h)
+exact (negsuc n) h = of_size (round binary64 true (suc n) 1) true (suc n) (round_whole binary64 true (suc n) h)
+
+-- up to 2 ^ 53 a whole number is a float
+pub is_exact : (z : ℤ) → nat_abs z ≤ 2 ^ 53 → Value (of_int binary64 (to_z w64 (of_z w64 z))) z
+is_exact z h = let f : SFits w64 z = omega (arith, ints) in subst⁻¹ (λ y. Value (of_int binary64 y) z) (to_z-of_z f) (exact z h)
