@@ -20,10 +20,7 @@ fn read_on<S: GridScalar>(s: &S, axis: Axis) -> Result<u16, EntryFault>
     ensures value { result ≡ on_axis axis (S.reading s.now) }
     ensures within { IfOk result (λ n. n ≤ 16383) }
 {
-    match s.read() {
-        Ok(n) => Ok(n),
-        Err(cause) => Err(EntryFault { axis, cause }),
-    }
+    s.read().map_err(|cause| EntryFault { axis, cause })
 }
 
 /// A number of the grid for the scalar: the one that it reads as, if it has one.

@@ -62,7 +62,7 @@ impl CheckFault {
             Site::FaceEntry(k, v) => (4, k, 1, v),
         };
         let (axis, cause) = match self.site {
-            Site::Unplaced(_, fault) => (fault.axis.number(), fault.cause.number()),
+            Site::Unplaced(_, fault) => (u8::from(fault.axis), u8::from(fault.cause)),
             _ => (0, 0),
         };
         FaultNumbers {
