@@ -1,6 +1,5 @@
 -- A float with the value z, against zero.
-use Rattle.std.proofs.Common.{◌≡◌, ℕ, zero, suc, ◌+◌, ◌*◌, ◌^◌, ◌<◌, ◌≤◌, Bool, true, false, not, ◌&&◌, ◌||◌, eqb, ℤ, pos, negsuc, ◌*ℤ◌, neg_ℤ, nat_abs, sym, refl, ap, ◌∙◌, ap₂, mul-pos, mul-one, arith, le-ltb, lt-ltb, eq-eqb, ne_eqb, le-leb, to_z, of_z, to_z-of_z, SFits, w64}
-use mathlib.Core.Bool.{beq}
+use Rattle.std.proofs.Common.{◌≡◌, ℕ, zero, suc, ◌*◌, ◌^◌, ◌<◌, ◌≤◌, Bool, true, false, not, ◌||◌, eqb, ℤ, pos, negsuc, ◌*ℤ◌, neg_ℤ, nat_abs, sym, refl, ap, ◌∙◌, ap₂, mul-pos, mul-one, arith, to_z, of_z, to_z-of_z, SFits, w64}
 use mathlib.Core.Path.{subst⁻¹}
 use lib.IntN.{neg_ℤ-neg_ℤ}
 use lib.Signed.{lt_z, le_z}
@@ -9,7 +8,7 @@ use lib.Ieee.Fits.{down_pos}
 use lib.Ieee.Exact.{HasValue}
 use lib.Ieee.Back.{round_whole}
 use borrow.Author.Differences.{ints}
-use borrow.Author.Tests.{lt-leb}
+use Rattle.std.proofs.lemmas.Bool.Decides.{nat_tests}
 use Rattle.zring.proofs.Laws.{neg_mul}
 use Rattle.plane.specs.Value.{signed, Value}
 
@@ -26,40 +25,19 @@ data Sized (A : ℕ) : Bool → ℤ → Type 0 where
   more : (n : ℕ) → 0 < A → Sized A false (pos (suc n))
   less : (n : ℕ) → 0 < A → Sized A true (negsuc n)
 
-same_pos : (a b : ℕ) → pos a ≡ pos b → a ≡ b
-same_pos a b e = omega (arith, ints)
-
-no_neg : (a b : ℕ) → 0 < b → pos a ≡ neg_ℤ (pos b) → ⊥
-no_neg a b p e = omega (arith, ints)
-
-no_pos : (a b : ℕ) → 0 < b → neg_ℤ (pos a) ≡ pos b → ⊥
-no_pos a b p e = omega (arith, ints)
-
-same_neg : (a b : ℕ) → neg_ℤ (pos a) ≡ neg_ℤ (pos b) → a ≡ b
-same_neg a b e = omega (arith, ints)
-
-nought : (a : ℕ) → neg_ℤ (pos a) ≡ pos 0 → a ≡ 0
-nought a e = omega (arith, ints)
-
 sized : (s : Bool) (A d : ℕ) (z : ℤ) → 0 < d → signed s A ≡ z *ℤ pos d → Sized A s z
-sized false A d (pos zero) p e = none (same_pos A (0 * d) e ∙ omega arith)
-sized false A d (pos (suc n)) p e =
-    let q : 0 < suc n * d = mul-pos (omega arith) p in
-    let h = same_pos A (suc n * d) e in
-    more n (omega arith)
-sized false A d (negsuc n) p e = absurd (no_neg A (suc n * d) (mul-pos (omega arith) p) e)
-sized true A d (pos zero) p e = none (nought A (e ∙ ap pos (omega arith)))
-sized true A d (pos (suc n)) p e = absurd (no_pos A (suc n * d) (mul-pos (omega arith) p) e)
-sized true A d (negsuc n) p e =
-    let q : 0 < suc n * d = mul-pos (omega arith) p in
-    let h = same_neg A (suc n * d) e in
-    less n (omega arith)
+sized false A d (pos zero) p e = none (omega (arith, ints))
+sized false A d (pos (suc n)) p e = let q : 0 < suc n * d = mul-pos (omega arith) p in more n (omega (arith, ints))
+sized false A d (negsuc n) p e = let q : 0 < suc n * d = mul-pos (omega arith) p in absurd (omega (arith, ints))
+sized true A d (pos zero) p e = none (omega (arith, ints))
+sized true A d (pos (suc n)) p e = let q : 0 < suc n * d = mul-pos (omega arith) p in absurd (omega (arith, ints))
+sized true A d (negsuc n) p e = let q : 0 < suc n * d = mul-pos (omega arith) p in less n (omega (arith, ints))
 
 -- ---- the tests
 above_go : (s : Bool) (A d : ℕ) (z : ℤ) → Sized A s z → below false (0 * d) s (A * 1) ≡ lt_z (pos 0) z
-above_go false A d z (none h) = le-ltb (0 * d) (A * 1) (omega arith)
+above_go false A d z (none h) = grind (arith, nat_tests)
 above_go true A d z (none h) = refl
-above_go s A d z (more n p) = lt-ltb (0 * d) (A * 1) (omega arith) ∙ sym (lt-ltb 0 (suc n) (omega arith))
+above_go s A d z (more n p) = grind (arith, nat_tests)
 above_go s A d z (less n p) = refl
 
 above : (y : Float) (z : ℤ) → Value y z → lt Zero y ≡ lt_z (pos 0) z
@@ -69,10 +47,10 @@ above (inf s) z h = absurd h
 above (fin s m e) z h = above_go s (m * up e) (down e) z (sized s (m * up e) (down e) z (down_pos e) h)
 
 under_go : (s : Bool) (A d : ℕ) (z : ℤ) → Sized A s z → below s (A * 1) false (0 * d) ≡ lt_z z (pos 0)
-under_go false A d z (none h) = le-ltb (A * 1) (0 * d) (omega arith)
-under_go true A d z (none h) = le-ltb 0 (A * 1 + 0 * d) (omega arith)
-under_go s A d z (more n p) = le-ltb (A * 1) (0 * d) (omega arith) ∙ sym (le-ltb (suc n) 0 (omega arith))
-under_go s A d z (less n p) = lt-ltb 0 (A * 1 + 0 * d) (omega arith)
+under_go false A d z (none h) = grind (arith, nat_tests)
+under_go true A d z (none h) = grind (arith, nat_tests)
+under_go s A d z (more n p) = grind (arith, nat_tests)
+under_go s A d z (less n p) = grind (arith, nat_tests)
 
 under : (y : Float) (z : ℤ) → Value y z → lt y Zero ≡ lt_z z (pos 0)
 unfolding lt
@@ -80,14 +58,11 @@ under nan z h = absurd h
 under (inf s) z h = absurd h
 under (fin s m e) z h = under_go s (m * up e) (down e) z (sized s (m * up e) (down e) z (down_pos e) h)
 
-apart : (a b : ℕ) (t : Bool) → (a ≡ b → ⊥) → (eqb a b && t) ≡ false
-apart a b t h = ap (λ q. q && t) (ne_eqb a b h)
-
 on_go : (s : Bool) (A d : ℕ) (z : ℤ) → Sized A s z → level s (A * 1) false (0 * d) ≡ eqb (nat_abs z) 0
-on_go false A d z (none h) = ap (λ q. q && true) (eq-eqb (A * 1) (0 * d) (omega arith))
-on_go true A d z (none h) = ap₂ ◌&&◌ (eq-eqb (A * 1) (0 * d) (omega arith)) (eq-eqb (A * 1) 0 (omega arith))
-on_go s A d z (more n p) = apart (A * 1) (0 * d) (beq s false || eqb (A * 1) 0) (λ h. omega arith) ∙ sym (ne_eqb (suc n) 0 (λ h. omega arith))
-on_go s A d z (less n p) = apart (A * 1) (0 * d) (beq s false || eqb (A * 1) 0) (λ h. omega arith) ∙ sym (ne_eqb (suc n) 0 (λ h. omega arith))
+on_go false A d z (none h) = grind (arith, nat_tests)
+on_go true A d z (none h) = grind (arith, nat_tests)
+on_go s A d z (more n p) = grind (arith, nat_tests)
+on_go s A d z (less n p) = grind (arith, nat_tests)
 
 on : (y : Float) (z : ℤ) → Value y z → eq y Zero ≡ eqb (nat_abs z) 0
 unfolding eq
@@ -96,10 +71,10 @@ on (inf s) z h = absurd h
 on (fin s m e) z h = on_go s (m * up e) (down e) z (sized s (m * up e) (down e) z (down_pos e) h)
 
 no_go : (s : Bool) (A d : ℕ) (z : ℤ) → Sized A s z → level false (0 * d) s (A * 1) ≡ eqb (nat_abs z) 0
-no_go false A d z (none h) = ap (λ q. q && true) (eq-eqb (0 * d) (A * 1) (omega arith))
-no_go true A d z (none h) = ap₂ ◌&&◌ (eq-eqb (0 * d) (A * 1) (omega arith)) (eq-eqb (0 * d) 0 (omega arith))
-no_go s A d z (more n p) = apart (0 * d) (A * 1) (beq false s || eqb (0 * d) 0) (λ h. omega arith) ∙ sym (ne_eqb (suc n) 0 (λ h. omega arith))
-no_go s A d z (less n p) = apart (0 * d) (A * 1) (beq false s || eqb (0 * d) 0) (λ h. omega arith) ∙ sym (ne_eqb (suc n) 0 (λ h. omega arith))
+no_go false A d z (none h) = grind (arith, nat_tests)
+no_go true A d z (none h) = grind (arith, nat_tests)
+no_go s A d z (more n p) = grind (arith, nat_tests)
+no_go s A d z (less n p) = grind (arith, nat_tests)
 
 no : (y : Float) (z : ℤ) → Value y z → eq Zero y ≡ eqb (nat_abs z) 0
 unfolding eq
@@ -109,12 +84,12 @@ no (fin s m e) z h = no_go s (m * up e) (down e) z (sized s (m * up e) (down e) 
 
 or_above : (z : ℤ) → (lt_z (pos 0) z || eqb (nat_abs z) 0) ≡ le_z (pos 0) z
 or_above (pos zero) = refl
-or_above (pos (suc n)) = ap (λ q. q || eqb (suc n) 0) (lt-ltb 0 (suc n) (omega arith)) ∙ sym (le-leb 0 (suc n) (omega arith))
-or_above (negsuc n) = ne_eqb (suc n) 0 (λ h. omega arith)
+or_above (pos (suc n)) = grind (arith, nat_tests)
+or_above (negsuc n) = grind (arith, nat_tests)
 
 or_under : (z : ℤ) → (lt_z z (pos 0) || eqb (nat_abs z) 0) ≡ le_z z (pos 0)
 or_under (pos zero) = refl
-or_under (pos (suc n)) = ap₂ ◌||◌ (le-ltb (suc n) 0 (omega arith)) (ne_eqb (suc n) 0 (λ h. omega arith)) ∙ sym (lt-leb (suc n) 0 (omega arith))
+or_under (pos (suc n)) = grind (arith, nat_tests)
 or_under (negsuc n) = refl
 
 -- ---- as the code has them
