@@ -7,6 +7,7 @@ use Rattle.std.specs.Float.Ieee.{up, down, of_bits, lt, eq, is_nan, of_int, roun
 use Rattle.std.specs.Float.Ieee.Fits.{down_pos, up_pos}
 use Rattle.std.specs.Float.Ieee.Exact.{HasValue}
 use Rattle.std.specs.Float.Ieee.Back.{round_whole}
+use Rattle.std.proofs.Math.Bool.{and-true}
 use Rattle.std.proofs.lemmas.Bool.Decides.{nat_tests, eqb_tells}
 use Rattle.entry.specs.declared.fault.Cause.{Cause}
 use Rattle.entry.specs.declared.fault.Cause.TheVariants.{NotANumber, BelowZero, AboveMost, Fraction}
@@ -85,10 +86,6 @@ eqb_scale x y d p =
       | inr f ↦ ne_eqb (x * d) (y * d) (λ q. f.1 (eq_of_mul-eq-mul_right d p x y q)) ∙ sym f.0
     ]
 
-and_true : (b : Bool) → (b && true) ≡ b
-and_true true = refl
-and_true false = refl
-
 -- k * u is n * w, so k * u * d against b * w is n * d against b
 crossed : (k u n w d b : ℕ) → 0 < w → k * u * 1 ≡ n * w → (k * u * d == b * w) ≡ (n * d == b)
 crossed k u n w d b p h =
@@ -107,7 +104,7 @@ unfolding eq
 level_whole nan s m n e v z = absurd v
 level_whole (inf t) s m n e v z = absurd v
 level_whole (fin true k j) s m n e v z = cc
-level_whole (fin false k j) false m n e v z = and_true _ ∙ crossed k (up j) n (down j) (down e) (m * up e) (down_pos j) v.1
+level_whole (fin false k j) false m n e v z = and-true _ ∙ crossed k (up j) n (down j) (down e) (m * up e) (down_pos j) v.1
 level_whole (fin false k j) true m n e v z =
     let o : m ≡ 0 = none true m z refl in
     let b : m * up e * down j ≡ 0 = simp o (omega arith) in

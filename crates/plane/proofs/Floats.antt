@@ -34,53 +34,28 @@ sized true A d (pos (suc n)) p e = let q : 0 < suc n * d = mul-pos (omega arith)
 sized true A d (negsuc n) p e = let q : 0 < suc n * d = mul-pos (omega arith) p in less n (omega (arith, ints))
 
 -- ---- the tests
-above_go : (s : Bool) (A d : ℕ) (z : ℤ) → Sized A s z → below false (0 * d) s (A * 1) ≡ lt_z (pos 0) z
-above_go false A d z (none h) = grind (arith, nat_tests)
-above_go true A d z (none h) = refl
-above_go s A d z (more n p) = grind (arith, nat_tests)
-above_go s A d z (less n p) = refl
+-- 0 below y, y below 0, y equal to 0 and 0 equal to y
+record Tests (y : Float) (z : ℤ) (zero_float : Float) : Type 0 where
+  above : lt zero_float y ≡ lt_z (pos 0) z
+  under : lt y zero_float ≡ lt_z z (pos 0)
+  on : eq y zero_float ≡ eqb (nat_abs z) 0
+  no : eq zero_float y ≡ eqb (nat_abs z) 0
 
-above : (y : Float) (z : ℤ) → Value y z → lt Zero y ≡ lt_z (pos 0) z
-unfolding lt
-above nan z h = absurd h
-above (inf s) z h = absurd h
-above (fin s m e) z h = above_go s (m * up e) (down e) z (sized s (m * up e) (down e) z (down_pos e) h)
-
-under_go : (s : Bool) (A d : ℕ) (z : ℤ) → Sized A s z → below s (A * 1) false (0 * d) ≡ lt_z z (pos 0)
-under_go false A d z (none h) = grind (arith, nat_tests)
-under_go true A d z (none h) = grind (arith, nat_tests)
-under_go s A d z (more n p) = grind (arith, nat_tests)
-under_go s A d z (less n p) = grind (arith, nat_tests)
-
-under : (y : Float) (z : ℤ) → Value y z → lt y Zero ≡ lt_z z (pos 0)
-unfolding lt
-under nan z h = absurd h
-under (inf s) z h = absurd h
-under (fin s m e) z h = under_go s (m * up e) (down e) z (sized s (m * up e) (down e) z (down_pos e) h)
-
-on_go : (s : Bool) (A d : ℕ) (z : ℤ) → Sized A s z → level s (A * 1) false (0 * d) ≡ eqb (nat_abs z) 0
-on_go false A d z (none h) = grind (arith, nat_tests)
-on_go true A d z (none h) = grind (arith, nat_tests)
-on_go s A d z (more n p) = grind (arith, nat_tests)
-on_go s A d z (less n p) = grind (arith, nat_tests)
-
-on : (y : Float) (z : ℤ) → Value y z → eq y Zero ≡ eqb (nat_abs z) 0
-unfolding eq
-on nan z h = absurd h
-on (inf s) z h = absurd h
-on (fin s m e) z h = on_go s (m * up e) (down e) z (sized s (m * up e) (down e) z (down_pos e) h)
-
-no_go : (s : Bool) (A d : ℕ) (z : ℤ) → Sized A s z → level false (0 * d) s (A * 1) ≡ eqb (nat_abs z) 0
-no_go false A d z (none h) = grind (arith, nat_tests)
-no_go true A d z (none h) = grind (arith, nat_tests)
-no_go s A d z (more n p) = grind (arith, nat_tests)
-no_go s A d z (less n p) = grind (arith, nat_tests)
-
-no : (y : Float) (z : ℤ) → Value y z → eq Zero y ≡ eqb (nat_abs z) 0
-unfolding eq
-no nan z h = absurd h
-no (inf s) z h = absurd h
-no (fin s m e) z h = no_go s (m * up e) (down e) z (sized s (m * up e) (down e) z (down_pos e) h)
+against : (y : Float) (z : ℤ) → Value y z → Tests y z Zero
+unfolding lt eq
+against nan z h = absurd h
+against (inf s) z h = absurd h
+against (fin s m e) z h =
+    let t = go s (m * up e) (down e) z (sized s (m * up e) (down e) z (down_pos e) h) in
+    record { above = t.0; under = t.1; on = t.2; no = t.3 }
+  where
+    go : (s : Bool) (A d : ℕ) (z : ℤ) → Sized A s z
+        → (below false (0 * d) s (A * 1) ≡ lt_z (pos 0) z) × (below s (A * 1) false (0 * d) ≡ lt_z z (pos 0))
+        × (level s (A * 1) false (0 * d) ≡ eqb (nat_abs z) 0) × (level false (0 * d) s (A * 1) ≡ eqb (nat_abs z) 0)
+    go false A d z (none h) = (grind (arith, nat_tests), grind (arith, nat_tests), grind (arith, nat_tests), grind (arith, nat_tests))
+    go true A d z (none h) = (refl, grind (arith, nat_tests), grind (arith, nat_tests), grind (arith, nat_tests))
+    go s A d z (more n p) = (grind (arith, nat_tests), grind (arith, nat_tests), grind (arith, nat_tests), grind (arith, nat_tests))
+    go s A d z (less n p) = (refl, grind (arith, nat_tests), grind (arith, nat_tests), grind (arith, nat_tests))
 
 or_above : (z : ℤ) → (lt_z (pos 0) z || eqb (nat_abs z) 0) ≡ le_z (pos 0) z
 or_above (pos zero) = refl
@@ -93,22 +68,25 @@ or_under (pos (suc n)) = grind (arith, nat_tests)
 or_under (negsuc n) = refl
 
 -- ---- as the code has them
+coded : (y : Float) (z : ℤ) → Value y z → Tests y z (of_bits binary64 0)
+coded y z h = subst⁻¹ (Tests y z) zero_is (against y z h)
+
 pub is_positive : (y : Float) (z : ℤ) → Value y z → lt (of_bits binary64 0) y ≡ lt_z (pos 0) z
-is_positive y z h = ap (λ o. lt o y) zero_is ∙ above y z h
+is_positive y z h = (coded y z h).above
 
 pub is_negative : (y : Float) (z : ℤ) → Value y z → lt y (of_bits binary64 0) ≡ lt_z z (pos 0)
-is_negative y z h = ap (λ o. lt y o) zero_is ∙ under y z h
+is_negative y z h = (coded y z h).under
 
 pub is_at_least : (y : Float) (z : ℤ) → Value y z → le (of_bits binary64 0) y ≡ le_z (pos 0) z
 unfolding le
-is_at_least y z h = ap (λ o. le o y) zero_is ∙ ap₂ ◌||◌ (above y z h) (no y z h) ∙ or_above z
+is_at_least y z h = let t = coded y z h in ap₂ ◌||◌ t.above t.no ∙ or_above z
 
 pub is_at_most : (y : Float) (z : ℤ) → Value y z → le y (of_bits binary64 0) ≡ le_z z (pos 0)
 unfolding le
-is_at_most y z h = ap (λ o. le y o) zero_is ∙ ap₂ ◌||◌ (under y z h) (on y z h) ∙ or_under z
+is_at_most y z h = let t = coded y z h in ap₂ ◌||◌ t.under t.on ∙ or_under z
 
 pub is_zero : (y : Float) (z : ℤ) → Value y z → eq y (of_bits binary64 0) ≡ eqb (nat_abs z) 0
-is_zero y z h = ap (λ o. eq y o) zero_is ∙ on y z h
+is_zero y z h = (coded y z h).on
 
 -- ---- the values themselves
 signed_not : (s : Bool) (A : ℕ) → signed (not s) A ≡ neg_ℤ (signed s A)
