@@ -1,18 +1,18 @@
 -- What the tests of a float say of its reading.
-use Rattle.std.specs.Prelude.{◌≡◌, ℕ, zero, suc, ◌+◌, ◌*◌, ◌/◌, ◌%◌, ◌<◌, ◌≤◌, Bool, true, false, cond, ◌&&◌, ◌||◌, T, ltb, ℤ, pos, Some, None, Ok, Err, Option, ◌==◌, nat_eq, nat_lt, refl, Float}
+use Rattle.std.specs.Prelude.{◌≡◌, ℕ, zero, suc, ◌+◌, ◌*◌, ◌/◌, ◌%◌, ◌<◌, ◌≤◌, Bool, true, false, cond, ◌&&◌, ◌||◌, ltb, ℤ, pos, Ok, Err, Result, ◌==◌, nat_eq, nat_lt, refl, Float}
 use Rattle.std.proofs.Common.{sym, ap, ◌∙◌, subst, inl, inr, mul-pos, mul-one, mul_comm, mul_right_comm, arith, ltb-true, ltb-false, lt-ltb, le-ltb, eq-eqb, ne_eqb}
 use Rattle.std.proofs.Math.Nat.{div-add-mod, zero-div, div-le_of_le-mul, eq_of_mul-eq-mul_right}
 use Rattle.std.specs.Float.{nan, inf, fin, binary64}
-use Rattle.std.specs.Float.Ieee.{up, down, of_bits, lt, eq, ne, of_int, round, to_unsigned}
+use Rattle.std.specs.Float.Ieee.{up, down, of_bits, lt, eq, is_nan, of_int, round, to_unsigned}
 use Rattle.std.specs.Float.Ieee.Fits.{down_pos, up_pos}
 use Rattle.std.specs.Float.Ieee.Exact.{HasValue}
 use Rattle.std.specs.Float.Ieee.Back.{round_whole}
-use Rattle.std.specs.Float.Ieee.Compare.{differs_from_itself, nan_differs}
+use Rattle.std.proofs.Math.Bool.{and-true}
 use Rattle.std.proofs.lemmas.Bool.Decides.{nat_tests, eqb_tells}
 use Rattle.entry.specs.declared.fault.Cause.{Cause}
 use Rattle.entry.specs.declared.fault.Cause.TheVariants.{NotANumber, BelowZero, AboveMost, Fraction}
-use Rattle.entry.specs.Within.{never, err_ok, fin_ok}
-use Rattle.entry.specs.Reading.{float_reading, outside, zero_float, most_float}
+use Rattle.entry.specs.Within.{fin_ok}
+use Rattle.entry.specs.Reading.{float_reading}
 
 abbrev Zero : Float
 Zero = fin false 0 (pos 0)
@@ -20,19 +20,19 @@ Zero = fin false 0 (pos 0)
 abbrev Most : Float
 Most = fin false 16383 (pos 0)
 
-zero_is : zero_float ≡ Zero
+zero_is : of_bits binary64 0 ≡ Zero
 unfolding of_bits
 zero_is = refl
 
-most_is : most_float ≡ Most
+most_is : of_bits binary64 4670232263827390464 ≡ Most
 unfolding of_bits
 most_is = refl
 
-holds : {b : Bool} → b ≡ true → T b
-holds h = subst T (sym h) tt
-
-pub nan_read : (x : Float) → ne x x ≡ true → Err NotANumber ≡ float_reading x
-nan_read x h = ap float_reading (sym (differs_from_itself x (holds h)))
+nan_read : (x : Float) → is_nan x ≡ true → Err NotANumber ≡ float_reading x
+unfolding is_nan
+nan_read nan h = refl
+nan_read (inf s) h = cc
+nan_read (fin s m e) h = cc
 
 positive : (m u d : ℕ) → 0 < m * u * 1 + 0 * d → 0 < m
 positive zero u d h = omega arith
@@ -40,17 +40,14 @@ positive (suc m) u d h = omega arith
 
 below_zero : (x : Float) → lt x Zero ≡ true → Err BelowZero ≡ float_reading x
 unfolding lt
-below_zero nan h = never h
+below_zero nan h = cc
 below_zero (inf true) h = refl
-below_zero (inf false) h = never h
+below_zero (inf false) h = cc
 below_zero (fin true m e) h =
     let p : 0 < m = positive m (up e) (down e) (ltb-true _ _ h) in
     let t : ltb 0 m ≡ true = grind (arith) in
     simp t
 below_zero (fin false m e) h = let p : m * up e * 1 < 0 * down e = ltb-true _ _ h in absurd (omega arith)
-
-pub below_read : (x : Float) → lt x (zero_float) ≡ true → Err BelowZero ≡ float_reading x
-below_read x h = below_zero x (subst (λ z. lt x z ≡ true) zero_is h)
 
 -- ---- not below 0, and not above the most
 
@@ -65,18 +62,15 @@ not_below true m e h = let z : m ≡ 0 = flat m (up e) (down e) (up_pos e) (ltb-
 
 above_most : (x : Float) → lt x Zero ≡ false → lt Most x ≡ true → Err AboveMost ≡ float_reading x
 unfolding lt
-above_most nan h k = never k
-above_most (inf true) h k = never k
+above_most nan h k = cc
+above_most (inf true) h k = cc
 above_most (inf false) h k = refl
-above_most (fin true m e) h k = never k
+above_most (fin true m e) h k = cc
 above_most (fin false m e) h k = let t : ltb (16383 * down e) (m * up e) ≡ true = lt-ltb _ _ (omega (arith, ltb-true _ _ k)) in simp t
-
-pub above_read : (x : Float) → lt x (zero_float) ≡ false → lt (most_float) x ≡ true → Err AboveMost ≡ float_reading x
-above_read x h k = above_most x (subst (λ z. lt x z ≡ false) zero_is h) (subst (λ z. lt z x ≡ true) most_is k)
 
 none : (s : Bool) (m : ℕ) → (s && nat_lt 0 m) ≡ false → s ≡ true → m ≡ 0
 none true m h e = let p : m ≤ 0 = ltb-false 0 m h in omega arith
-none false m h e = never e
+none false m h e = cc
 
 not_above : (s : Bool) (m : ℕ) (e : ℤ) → (s && nat_lt 0 m) ≡ false → lt Most (fin s m e) ≡ false → m * up e ≤ 16383 * down e
 unfolding lt
@@ -91,10 +85,6 @@ eqb_scale x y d p =
       | inl t ↦ eq-eqb (x * d) (y * d) (ap (λ z. z * d) t.1) ∙ sym t.0
       | inr f ↦ ne_eqb (x * d) (y * d) (λ q. f.1 (eq_of_mul-eq-mul_right d p x y q)) ∙ sym f.0
     ]
-
-and_true : (b : Bool) → (b && true) ≡ b
-and_true true = refl
-and_true false = refl
 
 -- k * u is n * w, so k * u * d against b * w is n * d against b
 crossed : (k u n w d b : ℕ) → 0 < w → k * u * 1 ≡ n * w → (k * u * d == b * w) ≡ (n * d == b)
@@ -113,8 +103,8 @@ level_whole : (y : Float) (s : Bool) (m n : ℕ) (e : ℤ) → HasValue y false 
 unfolding eq
 level_whole nan s m n e v z = absurd v
 level_whole (inf t) s m n e v z = absurd v
-level_whole (fin true k j) s m n e v z = never (sym v.0)
-level_whole (fin false k j) false m n e v z = and_true _ ∙ crossed k (up j) n (down j) (down e) (m * up e) (down_pos j) v.1
+level_whole (fin true k j) s m n e v z = cc
+level_whole (fin false k j) false m n e v z = and-true _ ∙ crossed k (up j) n (down j) (down e) (m * up e) (down_pos j) v.1
 level_whole (fin false k j) true m n e v z =
     let o : m ≡ 0 = none true m z refl in
     let b : m * up e * down j ≡ 0 = simp o (omega arith) in
@@ -152,66 +142,41 @@ left s m n e z h t =
     let b = put_back s m n e z h t in
     simp (z, a, b) (simp t)
 
-tested : (x : Float) (n : ℕ) → ne x x ≡ false → lt x Zero ≡ false → lt Most x ≡ false → n ≡ to_unsigned 16 x
+tested : (x : Float) (n : ℕ) → is_nan x ≡ false → lt x Zero ≡ false → lt Most x ≡ false → n ≡ to_unsigned 16 x
     → float_reading x ≡ cond (eq (of_int binary64 (pos n)) x) (Ok n) (Err Fraction)
-unfolding lt
-tested nan n a b c t = never (sym a ∙ nan_differs)
-tested (inf true) n a b c t = never (sym b)
-tested (inf false) n a b c t = never (sym c)
+unfolding lt is_nan
+tested nan n a b c t = cc
+tested (inf true) n a b c t = cc
+tested (inf false) n a b c t = cc
 tested (fin s m e) n a b c t =
     let z = not_below s m e b in
     let h = not_above s m e z c in
     left s m n e z h (whole_part s m n e z h t)
 
-pub tested_read : (x : Float) (n : ℕ) → ne x x ≡ false → lt x (zero_float) ≡ false → lt (most_float) x ≡ false → n ≡ to_unsigned 16 x
-    → float_reading x ≡ cond (eq (of_int binary64 (pos n)) x) (Ok n) (Err Fraction)
-tested_read x n a b c t = tested x n a (subst (λ z. lt x z ≡ false) zero_is b) (subst (λ z. lt z x ≡ false) most_is c) t
+-- ---- the reading by the code's tests, in their order
 
--- ---- the two steps of the reading
+abbrev tests : Float → Float → Float → Result ℕ Cause
+tests low high x =
+    cond (is_nan x) (Err NotANumber) (cond (lt x low) (Err BelowZero) (cond (lt high x) (Err AboveMost)
+    (cond (eq (of_int binary64 (pos (to_unsigned 16 x))) x) (Ok (to_unsigned 16 x)) (Err Fraction))))
 
-is_none : Option Cause → Bool
-is_none None = true
-is_none (Some _) = false
-
-inside : Cause → Option Cause → Cause
-inside d None = d
-inside d (Some c) = c
-
-none_some : {A : Type 0} {c : Cause} → None ≡ Some c → A
-unfolding is_none
-none_some h = never (sym (ap is_none h))
-
-inner : {a b : Cause} → Some a ≡ Some b → a ≡ b
-unfolding inside
-inner {a = a} h = ap (inside a) h
-
--- the tests against the ends find a cause: it is the reading's
-pub ends_read : (x : Float) (c : Cause) → Some c ≡ outside x → Err c ≡ float_reading x
-ends_read x c h = go (ne x x) refl (lt x zero_float) refl (lt most_float x) refl h
+between : (x : Float) → float_reading x ≡ tests Zero Most x
+between x = go (is_nan x) refl (lt x Zero) refl (lt Most x) refl
   where
-    go : (a : Bool) → ne x x ≡ a → (b : Bool) → lt x zero_float ≡ b → (d : Bool) → lt most_float x ≡ d
-        → Some c ≡ cond a (Some NotANumber) (cond b (Some BelowZero) (cond d (Some AboveMost) None)) → Err c ≡ float_reading x
-    go true p b q d r e = ap Err (inner e) ∙ nan_read x p
-    go false p true q d r e = ap Err (inner e) ∙ below_read x q
-    go false p false q true r e = ap Err (inner e) ∙ above_read x q r
-    go false p false q false r e = none_some (sym e)
+    go : (a : Bool) → is_nan x ≡ a → (b : Bool) → lt x Zero ≡ b → (d : Bool) → lt Most x ≡ d
+        → float_reading x ≡ cond a (Err NotANumber) (cond b (Err BelowZero) (cond d (Err AboveMost)
+        (cond (eq (of_int binary64 (pos (to_unsigned 16 x))) x) (Ok (to_unsigned 16 x)) (Err Fraction))))
+    go true p b q d r = sym (nan_read x p)
+    go false p true q d r = sym (below_zero x q)
+    go false p false q true r = sym (above_most x q r)
+    go false p false q false r = tested x (to_unsigned 16 x) p q r refl
 
--- they find none: the whole part decides
-pub between_read : (x : Float) (n : ℕ) → None ≡ outside x → n ≡ to_unsigned 16 x
-    → cond (eq (of_int binary64 (pos n)) x) (Ok n) (Err Fraction) ≡ float_reading x
-between_read x n h t = go (ne x x) refl (lt x zero_float) refl (lt most_float x) refl h
-  where
-    go : (a : Bool) → ne x x ≡ a → (b : Bool) → lt x zero_float ≡ b → (d : Bool) → lt most_float x ≡ d
-        → None ≡ cond a (Some NotANumber) (cond b (Some BelowZero) (cond d (Some AboveMost) None))
-        → cond (eq (of_int binary64 (pos n)) x) (Ok n) (Err Fraction) ≡ float_reading x
-    go true p b q d r e = none_some e
-    go false p true q d r e = none_some e
-    go false p false q true r e = none_some e
-    go false p false q false r e = sym (tested_read x n p q r t)
+pub by_tests : (x : Float) → float_reading x ≡ tests (of_bits binary64 0) (of_bits binary64 4670232263827390464) x
+by_tests x = subst (λ z. float_reading x ≡ tests z (of_bits binary64 4670232263827390464) x) (sym zero_is) (subst (λ z. float_reading x ≡ tests Zero z x) (sym most_is) (between x))
 
 -- a float that reads as n is cut to n
 pub cut_read : (x : Float) (n : ℕ) → float_reading x ≡ Ok n → to_unsigned 16 x ≡ n
-cut_read nan n h = err_ok h
-cut_read (inf true) n h = err_ok h
-cut_read (inf false) n h = err_ok h
+cut_read nan n h = cc
+cut_read (inf true) n h = cc
+cut_read (inf false) n h = cc
 cut_read (fin s m e) n h = let q = fin_ok s m n e h in whole_part s m _ e q.0 q.1 refl ∙ q.2

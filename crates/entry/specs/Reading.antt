@@ -1,7 +1,7 @@
 -- The number of the grid that a scalar reads as, or why it has none.
-use Rattle.std.specs.Prelude.{ℕ, ◌*◌, ◌/◌, ◌%◌, true, false, cond, ◌&&◌, Some, None, Ok, Err, Option, Result, ◌==◌, from_bits, nat_lt, Float}
-use Rattle.std.specs.Float.{nan, inf, fin, binary64}
-use Rattle.std.specs.Float.Ieee.{up, down, lt, ne}
+use Rattle.std.specs.Prelude.{ℕ, ◌*◌, ◌/◌, ◌%◌, true, false, cond, ◌&&◌, Ok, Err, Result, ◌==◌, nat_lt, Float}
+use Rattle.std.specs.Float.{nan, inf, fin}
+use Rattle.std.specs.Float.Ieee.{up, down}
 use Rattle.entry.specs.declared.fault.Cause.{Cause}
 use Rattle.entry.specs.declared.fault.Cause.TheVariants.{NotANumber, BelowZero, AboveMost, Fraction}
 
@@ -19,15 +19,3 @@ float_reading (fin s m e) = cond (s && nat_lt 0 m) (Err BelowZero) (sized (m * u
 -- a u16 reads as itself
 abbrev pub read_small : ℕ → Result ℕ Cause
 read_small n = cond (nat_lt 16383 n) (Err AboveMost) (Ok n)
-
--- 0 as a float
-abbrev pub zero_float : Float
-zero_float = from_bits binary64 0
-
--- 16383 as a float
-abbrev pub most_float : Float
-most_float = from_bits binary64 4670232263827390464
-
--- the cause that the tests against the ends find in a float
-abbrev pub outside : Float → Option Cause
-outside x = cond (ne x x) (Some NotANumber) (cond (lt x zero_float) (Some BelowZero) (cond (lt most_float x) (Some AboveMost) None))

@@ -7,23 +7,12 @@ use crate::kind::HasPosition;
 use crate::scalar::GridScalar;
 use plane::Place;
 
-/// The place (x, y).
-fn settled(x: u16, y: u16) -> Place
-    requires { (x ≤ 16383) × (y ≤ 16383) }
-    ensures { (result.x ≡ x) × (result.y ≡ y) }
-{
-    Place::new(x, y).unwrap()
-}
-
 /// What the scalar reads as, with the axis in a fault.
 fn read_on<S: GridScalar>(s: &S, axis: Axis) -> Result<u16, EntryFault>
     ensures value { result ≡ on_axis axis (S.reading s.now) }
     ensures within { IfOk result (λ n. n ≤ 16383) }
 {
-    match s.read() {
-        Ok(n) => Ok(n),
-        Err(cause) => Err(EntryFault { axis, cause }),
-    }
+    s.read().map_err(|cause| EntryFault { axis, cause })
 }
 
 /// A number of the grid for the scalar: the one that it reads as, if it has one.
@@ -41,7 +30,7 @@ pub fn place<E: HasPosition>(e: &E) -> Result<Place, EntryFault>
     let position = e.position();
     let x = read_on(&position.x, Axis::X)?;
     let y = read_on(&position.y, Axis::Y)?;
-    Ok(settled(x, y))
+    Ok(Place::new(x, y).unwrap())
 }
 
 /// The place of an entry that is known to have one, without tests; else any place.
@@ -49,5 +38,5 @@ pub fn grid_place<E: HasPosition>(e: &E) -> Place
     ensures { (x y : ℕ) → spot_of E.Scalar.reading (E.across e.now) (E.along e.now) ≡ Ok (x, y) → (result.x ≡ x) × (result.y ≡ y) }
 {
     let position = e.position();
-    settled(grid_on(&position.x), grid_on(&position.y))
+    Place::new(grid_on(&position.x), grid_on(&position.y)).unwrap()
 }

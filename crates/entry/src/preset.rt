@@ -12,12 +12,12 @@ pub enum Setting {
     Unset,
 }
 
-impl Setting {
-    /// The form's number in answers.
-    pub fn number(&self) -> u8
-        ensures { result ≡ setting_number self.now }
-    {
-        match *self {
+/// The form's number in answers.
+impl From<Setting> for u8 {
+    ghost from_gives = { λ setting number. number ≡ setting_number setting };
+
+    fn from(setting: Setting) -> u8 {
+        match setting {
             Setting::Dial(_) => 1,
             Setting::Switch(_) => 2,
             Setting::Unset => 3,

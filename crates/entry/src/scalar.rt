@@ -1,10 +1,7 @@
 //! Scalars, and the numbers of the grid that they read as.
-ghost use Rattle.std.specs.Prelude.{◌≡◌, ℕ, ◌≤◌, pos, if◌then◌else◌, Ok, Err, Result};
-ghost use Rattle.std.specs.Float.{binary64};
-ghost use Rattle.std.specs.Float.Ieee.{eq, of_int};
+ghost use Rattle.std.specs.Prelude.{◌≡◌, ℕ, ◌≤◌, Ok, Result};
 ghost use Rattle.entry.specs.declared.fault.Cause.{Cause};
-ghost use Rattle.entry.specs.declared.fault.Cause.TheVariants.{Fraction};
-ghost use Rattle.entry.specs.Reading.{outside, float_reading, read_small};
+ghost use Rattle.entry.specs.Reading.{float_reading, read_small};
 ghost use Rattle.std.proofs.Common.{rules};
 ghost use Rattle.entry.specs.Within.{float_within};
 
@@ -33,9 +30,10 @@ impl GridScalar for u16 {
 
     fn read(&self) -> Result<u16, Cause> {
         if *self > 16383 {
-            return Err(Cause::AboveMost);
+            Err(Cause::AboveMost)
+        } else {
+            Ok(*self)
         }
-        Ok(*self)
     }
 
     fn grid(&self) -> u16 {
@@ -48,48 +46,25 @@ impl GridScalar for f64 {
 
     ghost within = { λ x n h. float_within x n h };
 
+    #[tactic(auto, using(crate::proofs::FloatReading::by_tests))]
     fn read(&self) -> Result<u16, Cause> {
-        read_float(*self)
+        let x = *self;
+        let whole = saturating_f64_to_u16(x);
+        if x.is_nan() {
+            Err(Cause::NotANumber)
+        } else if x < 0.0 {
+            Err(Cause::BelowZero)
+        } else if x > 16383.0 {
+            Err(Cause::AboveMost)
+        } else if f64::from(whole) == x {
+            Ok(whole)
+        } else {
+            Err(Cause::Fraction)
+        }
     }
 
+    #[tactic(auto, using(crate::proofs::FloatReading::cut_read))]
     fn grid(&self) -> u16 {
         saturating_f64_to_u16(*self)
     }
-}
-
-/// Why a float lies outside the grid's numbers, if it does.
-fn outside_grid(x: f64) -> Option<Cause>
-    ensures { result ≡ outside x }
-{
-    if x != x {
-        return Some(Cause::NotANumber);
-    }
-    if x < 0.0 {
-        return Some(Cause::BelowZero);
-    }
-    if x > 16383.0 {
-        return Some(Cause::AboveMost);
-    }
-    None
-}
-
-/// The number n if the float x equals it.
-fn exactly(x: f64, n: u16) -> Result<u16, Cause>
-    ensures { result ≡ (if eq (of_int binary64 (pos n)) x then Ok n else Err Fraction) }
-{
-    if n as f64 == x {
-        Ok(n)
-    } else {
-        Err(Cause::Fraction)
-    }
-}
-
-/// The whole number that a float equals.
-fn read_float(x: f64) -> Result<u16, Cause>
-    ensures { result ≡ float_reading x }
-{
-    if let Some(cause) = outside_grid(x) {
-        return Err(cause);
-    }
-    exactly(x, saturating_f64_to_u16(x))
 }

@@ -60,7 +60,7 @@ impl From<CheckFault> for FaultNumbers {
             Site::FaceEntry(k, v) => (4, k, 1, v),
         };
         let (axis, cause) = match fault.site {
-            Site::Unplaced(_, why) => (why.axis.number(), why.cause.number()),
+            Site::Unplaced(_, why) => (why.axis.into(), why.cause.into()),
             _ => (0, 0),
         };
         FaultNumbers {

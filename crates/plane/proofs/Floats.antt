@@ -1,6 +1,6 @@
 -- A float with the value z, against zero.
-use Rattle.std.proofs.Common.{◌≡◌, ℕ, zero, suc, ◌+◌, ◌*◌, ◌^◌, ◌<◌, ◌≤◌, Bool, true, false, not, ◌&&◌, ◌||◌, eqb, ℤ, pos, negsuc, ◌*ℤ◌, neg_ℤ, nat_abs, sym, refl, ap, ◌∙◌, ap₂, mul-pos, mul-one, arith, le-ltb, lt-ltb, eq-eqb, ne_eqb, le-leb}
-use mathlib.Core.Bool.{beq}
+use Rattle.std.proofs.Common.{◌≡◌, ℕ, zero, suc, ◌*◌, ◌^◌, ◌<◌, ◌≤◌, Bool, true, false, not, ◌||◌, eqb, ℤ, pos, negsuc, ◌*ℤ◌, neg_ℤ, nat_abs, sym, refl, ap, ◌∙◌, ap₂, mul-pos, mul-one, arith, to_z, of_z, to_z-of_z, SFits, w64}
+use mathlib.Core.Path.{subst⁻¹}
 use lib.IntN.{neg_ℤ-neg_ℤ}
 use lib.Signed.{lt_z, le_z}
 use lib.Ieee.{Float, nan, inf, fin, binary64, up, down, below, level, of_bits, lt, le, eq, neg, of_int, round}
@@ -8,7 +8,7 @@ use lib.Ieee.Fits.{down_pos}
 use lib.Ieee.Exact.{HasValue}
 use lib.Ieee.Back.{round_whole}
 use borrow.Author.Differences.{ints}
-use borrow.Author.Tests.{lt-leb}
+use Rattle.std.proofs.lemmas.Bool.Decides.{nat_tests}
 use Rattle.zring.proofs.Laws.{neg_mul}
 use Rattle.plane.specs.Value.{signed, Value}
 
@@ -25,114 +25,68 @@ data Sized (A : ℕ) : Bool → ℤ → Type 0 where
   more : (n : ℕ) → 0 < A → Sized A false (pos (suc n))
   less : (n : ℕ) → 0 < A → Sized A true (negsuc n)
 
-same_pos : (a b : ℕ) → pos a ≡ pos b → a ≡ b
-same_pos a b e = omega (arith, ints)
-
-no_neg : (a b : ℕ) → 0 < b → pos a ≡ neg_ℤ (pos b) → ⊥
-no_neg a b p e = omega (arith, ints)
-
-no_pos : (a b : ℕ) → 0 < b → neg_ℤ (pos a) ≡ pos b → ⊥
-no_pos a b p e = omega (arith, ints)
-
-same_neg : (a b : ℕ) → neg_ℤ (pos a) ≡ neg_ℤ (pos b) → a ≡ b
-same_neg a b e = omega (arith, ints)
-
-nought : (a : ℕ) → neg_ℤ (pos a) ≡ pos 0 → a ≡ 0
-nought a e = omega (arith, ints)
-
 sized : (s : Bool) (A d : ℕ) (z : ℤ) → 0 < d → signed s A ≡ z *ℤ pos d → Sized A s z
-sized false A d (pos zero) p e = none (same_pos A (0 * d) e ∙ omega arith)
-sized false A d (pos (suc n)) p e =
-    let q : 0 < suc n * d = mul-pos (omega arith) p in
-    let h = same_pos A (suc n * d) e in
-    more n (omega arith)
-sized false A d (negsuc n) p e = absurd (no_neg A (suc n * d) (mul-pos (omega arith) p) e)
-sized true A d (pos zero) p e = none (nought A (e ∙ ap pos (omega arith)))
-sized true A d (pos (suc n)) p e = absurd (no_pos A (suc n * d) (mul-pos (omega arith) p) e)
-sized true A d (negsuc n) p e =
-    let q : 0 < suc n * d = mul-pos (omega arith) p in
-    let h = same_neg A (suc n * d) e in
-    less n (omega arith)
+sized false A d (pos zero) p e = none (omega (arith, ints))
+sized false A d (pos (suc n)) p e = let q : 0 < suc n * d = mul-pos (omega arith) p in more n (omega (arith, ints))
+sized false A d (negsuc n) p e = let q : 0 < suc n * d = mul-pos (omega arith) p in absurd (omega (arith, ints))
+sized true A d (pos zero) p e = none (omega (arith, ints))
+sized true A d (pos (suc n)) p e = let q : 0 < suc n * d = mul-pos (omega arith) p in absurd (omega (arith, ints))
+sized true A d (negsuc n) p e = let q : 0 < suc n * d = mul-pos (omega arith) p in less n (omega (arith, ints))
 
 -- ---- the tests
-above_go : (s : Bool) (A d : ℕ) (z : ℤ) → Sized A s z → below false (0 * d) s (A * 1) ≡ lt_z (pos 0) z
-above_go false A d z (none h) = le-ltb (0 * d) (A * 1) (omega arith)
-above_go true A d z (none h) = refl
-above_go s A d z (more n p) = lt-ltb (0 * d) (A * 1) (omega arith) ∙ sym (lt-ltb 0 (suc n) (omega arith))
-above_go s A d z (less n p) = refl
+-- 0 below y, y below 0, y equal to 0 and 0 equal to y
+record Tests (y : Float) (z : ℤ) (zero_float : Float) : Type 0 where
+  above : lt zero_float y ≡ lt_z (pos 0) z
+  under : lt y zero_float ≡ lt_z z (pos 0)
+  on : eq y zero_float ≡ eqb (nat_abs z) 0
+  no : eq zero_float y ≡ eqb (nat_abs z) 0
 
-above : (y : Float) (z : ℤ) → Value y z → lt Zero y ≡ lt_z (pos 0) z
-unfolding lt
-above nan z h = absurd h
-above (inf s) z h = absurd h
-above (fin s m e) z h = above_go s (m * up e) (down e) z (sized s (m * up e) (down e) z (down_pos e) h)
-
-under_go : (s : Bool) (A d : ℕ) (z : ℤ) → Sized A s z → below s (A * 1) false (0 * d) ≡ lt_z z (pos 0)
-under_go false A d z (none h) = le-ltb (A * 1) (0 * d) (omega arith)
-under_go true A d z (none h) = le-ltb 0 (A * 1 + 0 * d) (omega arith)
-under_go s A d z (more n p) = le-ltb (A * 1) (0 * d) (omega arith) ∙ sym (le-ltb (suc n) 0 (omega arith))
-under_go s A d z (less n p) = lt-ltb 0 (A * 1 + 0 * d) (omega arith)
-
-under : (y : Float) (z : ℤ) → Value y z → lt y Zero ≡ lt_z z (pos 0)
-unfolding lt
-under nan z h = absurd h
-under (inf s) z h = absurd h
-under (fin s m e) z h = under_go s (m * up e) (down e) z (sized s (m * up e) (down e) z (down_pos e) h)
-
-apart : (a b : ℕ) (t : Bool) → (a ≡ b → ⊥) → (eqb a b && t) ≡ false
-apart a b t h = ap (λ q. q && t) (ne_eqb a b h)
-
-on_go : (s : Bool) (A d : ℕ) (z : ℤ) → Sized A s z → level s (A * 1) false (0 * d) ≡ eqb (nat_abs z) 0
-on_go false A d z (none h) = ap (λ q. q && true) (eq-eqb (A * 1) (0 * d) (omega arith))
-on_go true A d z (none h) = ap₂ ◌&&◌ (eq-eqb (A * 1) (0 * d) (omega arith)) (eq-eqb (A * 1) 0 (omega arith))
-on_go s A d z (more n p) = apart (A * 1) (0 * d) (beq s false || eqb (A * 1) 0) (λ h. omega arith) ∙ sym (ne_eqb (suc n) 0 (λ h. omega arith))
-on_go s A d z (less n p) = apart (A * 1) (0 * d) (beq s false || eqb (A * 1) 0) (λ h. omega arith) ∙ sym (ne_eqb (suc n) 0 (λ h. omega arith))
-
-on : (y : Float) (z : ℤ) → Value y z → eq y Zero ≡ eqb (nat_abs z) 0
-unfolding eq
-on nan z h = absurd h
-on (inf s) z h = absurd h
-on (fin s m e) z h = on_go s (m * up e) (down e) z (sized s (m * up e) (down e) z (down_pos e) h)
-
-no_go : (s : Bool) (A d : ℕ) (z : ℤ) → Sized A s z → level false (0 * d) s (A * 1) ≡ eqb (nat_abs z) 0
-no_go false A d z (none h) = ap (λ q. q && true) (eq-eqb (0 * d) (A * 1) (omega arith))
-no_go true A d z (none h) = ap₂ ◌&&◌ (eq-eqb (0 * d) (A * 1) (omega arith)) (eq-eqb (0 * d) 0 (omega arith))
-no_go s A d z (more n p) = apart (0 * d) (A * 1) (beq false s || eqb (0 * d) 0) (λ h. omega arith) ∙ sym (ne_eqb (suc n) 0 (λ h. omega arith))
-no_go s A d z (less n p) = apart (0 * d) (A * 1) (beq false s || eqb (0 * d) 0) (λ h. omega arith) ∙ sym (ne_eqb (suc n) 0 (λ h. omega arith))
-
-no : (y : Float) (z : ℤ) → Value y z → eq Zero y ≡ eqb (nat_abs z) 0
-unfolding eq
-no nan z h = absurd h
-no (inf s) z h = absurd h
-no (fin s m e) z h = no_go s (m * up e) (down e) z (sized s (m * up e) (down e) z (down_pos e) h)
+against : (y : Float) (z : ℤ) → Value y z → Tests y z Zero
+unfolding lt eq
+against nan z h = absurd h
+against (inf s) z h = absurd h
+against (fin s m e) z h =
+    let t = go s (m * up e) (down e) z (sized s (m * up e) (down e) z (down_pos e) h) in
+    record { above = t.0; under = t.1; on = t.2; no = t.3 }
+  where
+    go : (s : Bool) (A d : ℕ) (z : ℤ) → Sized A s z
+        → (below false (0 * d) s (A * 1) ≡ lt_z (pos 0) z) × (below s (A * 1) false (0 * d) ≡ lt_z z (pos 0))
+        × (level s (A * 1) false (0 * d) ≡ eqb (nat_abs z) 0) × (level false (0 * d) s (A * 1) ≡ eqb (nat_abs z) 0)
+    go false A d z (none h) = (grind (arith, nat_tests), grind (arith, nat_tests), grind (arith, nat_tests), grind (arith, nat_tests))
+    go true A d z (none h) = (refl, grind (arith, nat_tests), grind (arith, nat_tests), grind (arith, nat_tests))
+    go s A d z (more n p) = (grind (arith, nat_tests), grind (arith, nat_tests), grind (arith, nat_tests), grind (arith, nat_tests))
+    go s A d z (less n p) = (refl, grind (arith, nat_tests), grind (arith, nat_tests), grind (arith, nat_tests))
 
 or_above : (z : ℤ) → (lt_z (pos 0) z || eqb (nat_abs z) 0) ≡ le_z (pos 0) z
 or_above (pos zero) = refl
-or_above (pos (suc n)) = ap (λ q. q || eqb (suc n) 0) (lt-ltb 0 (suc n) (omega arith)) ∙ sym (le-leb 0 (suc n) (omega arith))
-or_above (negsuc n) = ne_eqb (suc n) 0 (λ h. omega arith)
+or_above (pos (suc n)) = grind (arith, nat_tests)
+or_above (negsuc n) = grind (arith, nat_tests)
 
 or_under : (z : ℤ) → (lt_z z (pos 0) || eqb (nat_abs z) 0) ≡ le_z z (pos 0)
 or_under (pos zero) = refl
-or_under (pos (suc n)) = ap₂ ◌||◌ (le-ltb (suc n) 0 (omega arith)) (ne_eqb (suc n) 0 (λ h. omega arith)) ∙ sym (lt-leb (suc n) 0 (omega arith))
+or_under (pos (suc n)) = grind (arith, nat_tests)
 or_under (negsuc n) = refl
 
 -- ---- as the code has them
+coded : (y : Float) (z : ℤ) → Value y z → Tests y z (of_bits binary64 0)
+coded y z h = subst⁻¹ (Tests y z) zero_is (against y z h)
+
 pub is_positive : (y : Float) (z : ℤ) → Value y z → lt (of_bits binary64 0) y ≡ lt_z (pos 0) z
-is_positive y z h = ap (λ o. lt o y) zero_is ∙ above y z h
+is_positive y z h = (coded y z h).above
 
 pub is_negative : (y : Float) (z : ℤ) → Value y z → lt y (of_bits binary64 0) ≡ lt_z z (pos 0)
-is_negative y z h = ap (λ o. lt y o) zero_is ∙ under y z h
+is_negative y z h = (coded y z h).under
 
 pub is_at_least : (y : Float) (z : ℤ) → Value y z → le (of_bits binary64 0) y ≡ le_z (pos 0) z
 unfolding le
-is_at_least y z h = ap (λ o. le o y) zero_is ∙ ap₂ ◌||◌ (above y z h) (no y z h) ∙ or_above z
+is_at_least y z h = let t = coded y z h in ap₂ ◌||◌ t.above t.no ∙ or_above z
 
 pub is_at_most : (y : Float) (z : ℤ) → Value y z → le y (of_bits binary64 0) ≡ le_z z (pos 0)
 unfolding le
-is_at_most y z h = ap (λ o. le y o) zero_is ∙ ap₂ ◌||◌ (under y z h) (on y z h) ∙ or_under z
+is_at_most y z h = let t = coded y z h in ap₂ ◌||◌ t.under t.on ∙ or_under z
 
 pub is_zero : (y : Float) (z : ℤ) → Value y z → eq y (of_bits binary64 0) ≡ eqb (nat_abs z) 0
-is_zero y z h = ap (λ o. eq y o) zero_is ∙ on y z h
+is_zero y z h = (coded y z h).on
 
 -- ---- the values themselves
 signed_not : (s : Bool) (A : ℕ) → signed (not s) A ≡ neg_ℤ (signed s A)
@@ -156,8 +110,11 @@ of_size (fin t m e) s n h =
     let w : m * up e ≡ n * down e = sym (mul-one (m * up e)) ∙ h.1 in
     ap (λ b. signed b (m * up e)) h.0 ∙ ap (signed s) w ∙ signed_mul s n (down e)
 
--- up to 2 ^ 53 a whole number is a float
-pub is_exact : (z : ℤ) → nat_abs z ≤ 2 ^ 53 → Value (of_int binary64 z) z
+exact : (z : ℤ) → nat_abs z ≤ 2 ^ 53 → Value (of_int binary64 z) z
 unfolding of_int
-is_exact (pos n) h = of_size (round binary64 false n 1) false n (round_whole binary64 false n h)
-is_exact (negsuc n) h = of_size (round binary64 true (suc n) 1) true (suc n) (round_whole binary64 true (suc n) h)
+exact (pos n) h = of_size (round binary64 false n 1) false n (round_whole binary64 false n h)
+exact (negsuc n) h = of_size (round binary64 true (suc n) 1) true (suc n) (round_whole binary64 true (suc n) h)
+
+-- up to 2 ^ 53 a whole number is a float
+pub is_exact : (z : ℤ) → nat_abs z ≤ 2 ^ 53 → Value (of_int binary64 (to_z w64 (of_z w64 z))) z
+is_exact z h = let f : SFits w64 z = omega (arith, ints) in subst⁻¹ (λ y. Value (of_int binary64 y) z) (to_z-of_z f) (exact z h)

@@ -10,3 +10,4 @@ pub mod Convex
 pub mod Worked
 pub mod Floats
 pub mod Same
+pub mod Offsets

@@ -1,9 +1,9 @@
-// Places of the pad, the side of a line and the inside of a circle, in exact whole numbers.
+//! Places of the pad, the side of a line and the inside of a circle, in exact whole numbers.
 #![tactic(auto)]
 
-mod float;
 mod line_side_info;
 mod math;
+mod offset;
 mod place;
 pub mod theorems;
 

@@ -1,7 +1,9 @@
-// A place on the pad.
-ghost use Rattle.std.specs.Prelude.{◌≡◌, ◌≤◌, ◌&&◌, is_some, IfSome, nat_le};
+//! A place on the pad.
+ghost use Rattle.std.specs.Prelude.{◌≡◌, ◌≤◌, ◌++◌, ◌&&◌, codes, is_some, decimal, IfSome, Some, nat_le};
 
-// Whole numbers from 0 to 16383.
+use std::fmt;
+
+/// Whole numbers from 0 to 16383.
 #[derive(Clone, Copy, PartialEq, Eq)]
 pub struct Place {
     x: u16,
@@ -11,10 +13,10 @@ pub struct Place {
 }
 
 impl Place {
-    // The lowest corner of the pad.
+    /// The lowest corner of the pad.
     pub const ORIGIN: Place = Place { x: 0, y: 0 };
 
-    // The place at x and y; None where one of them is past 16383.
+    /// The place at x and y; None where one of them is past 16383.
     pub fn new(x: u16, y: u16) -> Option<Place>
         ensures accepted { is_some result ≡ (nat_le x 16383 && nat_le y 16383) }
         ensures kept { IfSome result (λ p. (p.x ≡ x) × (p.y ≡ y)) }
@@ -36,5 +38,13 @@ impl Place {
         ensures { result ≡ self.now.y }
     {
         self.y
+    }
+}
+
+impl fmt::Display for Place {
+    ghost output = { λ p. Some (codes "(" ++ (decimal p.x ++ (codes ", " ++ (decimal p.y ++ codes ")")))) };
+
+    fn fmt<W: fmt::Write>(&self, f: &mut fmt::Formatter<W>) -> fmt::Result {
+        write!(f, "({}, {})", self.x, self.y)
     }
 }

@@ -1,154 +1,112 @@
-// Each function's contract is a theorem.
+//! Each function's contract is a theorem.
 ghost use Rattle.plane.specs.Holds.{SameSide};
 ghost use Rattle.plane.specs.Worked.{WorkedValues};
 ghost use Rattle.plane.specs.Identities.{SideLaws, CircleLaws, Multilinear, Alternating, Lifted, Five, FivePoints, Three, SectorVectors, SectorPoints, FlipMeasure};
 ghost use Rattle.plane.specs.Signs.{Bounds, Mean, Pencil, Flip, Chord, Sector, Tie, Outward, Broken, Border};
 
-// four values by computation
-pub fn worked_values_stands() -> u8
+/// four values by computation
+pub fn worked_values_stands()
     ensures { WorkedValues }
-{
-    0
-}
+{}
 
-// == and != of two sides go by the whole numbers that they hold
-pub fn same_side_stands() -> u8
+/// == and != of two sides go by the whole numbers that they hold
+pub fn same_side_stands()
     ensures { SameSide }
-{
-    0
-}
+{}
 
-// sides turn, change sign and add
-pub fn side_laws_stands() -> u8
+/// sides turn, change sign and add
+pub fn side_laws_stands()
     ensures { SideLaws }
-{
-    0
-}
+{}
 
-// circles alternate
-pub fn circle_laws_stands() -> u8
+/// circles alternate
+pub fn circle_laws_stands()
     ensures { CircleLaws }
-{
-    0
-}
+{}
 
-// the determinant is linear in each row
-pub fn multilinear_stands() -> u8
+/// the determinant is linear in each row
+pub fn multilinear_stands()
     ensures { Multilinear }
-{
-    0
-}
+{}
 
-// the determinant alternates
-pub fn alternating_stands() -> u8
+/// the determinant alternates
+pub fn alternating_stands()
     ensures { Alternating }
-{
-    0
-}
+{}
 
-// circles and sides are values of one determinant
-pub fn lifted_stands() -> u8
+/// circles and sides are values of one determinant
+pub fn lifted_stands()
     ensures { Lifted }
-{
-    0
-}
+{}
 
-// five vectors depend, and so do the circles of five points
-pub fn five_stands() -> u8
+/// five vectors depend, and so do the circles of five points
+pub fn five_stands()
     ensures vectors { Five }
     ensures points { FivePoints }
-{
-    0
-}
+{}
 
-// the relation of three terms
-pub fn three_stands() -> u8
+/// the relation of three terms
+pub fn three_stands()
     ensures { Three }
-{
-    0
-}
+{}
 
-// a point by two others, its origin and infinity
-pub fn sector_form_stands() -> u8
+/// a point by two others, its origin and infinity
+pub fn sector_form_stands()
     ensures vectors { SectorVectors }
     ensures points { SectorPoints }
-{
-    0
-}
+{}
 
-// a flip lowers the measure
-pub fn flip_measure_stands() -> u8
+/// a flip lowers the measure
+pub fn flip_measure_stands()
     ensures { FlipMeasure }
-{
-    0
-}
+{}
 
-// sides and circles of places are small
-pub fn bounds_stands() -> u8
+/// sides and circles of places are small
+pub fn bounds_stands()
     ensures { Bounds }
-{
-    0
-}
+{}
 
-// means of points
-pub fn mean_stands() -> u8
+/// means of points
+pub fn mean_stands()
     ensures { Mean }
-{
-    0
-}
+{}
 
-// circles through two points
-pub fn pencil_stands() -> u8
+/// circles through two points
+pub fn pencil_stands()
     ensures { Pencil }
-{
-    0
-}
+{}
 
-// a flip keeps faces turning left
-pub fn flip_stands() -> u8
+/// a flip keeps faces turning left
+pub fn flip_stands()
     ensures { Flip }
-{
-    0
-}
+{}
 
-// a point on a chord is inside the circle
-pub fn chord_stands() -> u8
+/// a point on a chord is inside the circle
+pub fn chord_stands()
     ensures { Chord }
-{
-    0
-}
+{}
 
-// a point in a sector lies beyond its side
-pub fn sector_stands() -> u8
+/// a point in a sector lies beyond its side
+pub fn sector_stands()
     ensures { Sector }
-{
-    0
-}
+{}
 
-// four points on a circle
-pub fn tie_stands() -> u8
+/// four points on a circle
+pub fn tie_stands()
     ensures { Tie }
-{
-    0
-}
+{}
 
-// the circles of a ring turn outward
-pub fn outward_stands() -> u8
+/// the circles of a ring turn outward
+pub fn outward_stands()
     ensures { Outward }
-{
-    0
-}
+{}
 
-// ties are broken by sides
-pub fn broken_stands() -> u8
+/// ties are broken by sides
+pub fn broken_stands()
     ensures { Broken }
-{
-    0
-}
+{}
 
-// the border of a hole stays legal
-pub fn border_stands() -> u8
+/// the border of a hole stays legal
+pub fn border_stands()
     ensures { Border }
-{
-    0
-}
+{}

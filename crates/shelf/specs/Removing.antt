@@ -1,6 +1,6 @@
 -- A shelf as a plain list with a count: what removal and renewal answer and leave.
 use Rattle.std.specs.Prelude.{ℕ, ◌-◌, min, cond, List, length, Some, None, Ok, Err, Option, Result, ◌==◌, nat_lt, slice_index_or, slice_set}
-use Rattle.shelf.specs.declared.NoEntry.{NoEntry}
+use Rattle.entry.specs.declared.fault.NoRecord.{NoRecord}
 use Rattle.shelf.specs.declared.Removed.{Removed}
 
 -- the number that moves to k where m entries are counted: the last one, unless k is the last
@@ -17,7 +17,7 @@ module _ {E : Type 0} where
   counted es c = min c (length es)
 
   -- the answer: the entry and the number moved, or the number asked for
-  abbrev pub removal : List E → ℕ → ℕ → E → Result (Removed E) NoEntry
+  abbrev pub removal : List E → ℕ → ℕ → E → Result (Removed E) (NoRecord ℕ)
   removal es m k d = cond (nat_lt k m) (Ok (record { entry = slice_index_or es k d; moved = moved_to m k })) (Err (record { number = k }))
 
   -- the entry at k and the last counted one have changed places
@@ -25,5 +25,5 @@ module _ {E : Type 0} where
   remaining es m k d = cond (nat_lt k m) (slice_set (slice_set es k (slice_index_or es (m - 1) d)) (m - 1) (slice_index_or es k d)) es
 
 -- done, or the number asked for
-abbrev pub below : ℕ → ℕ → Result (Unit {0}) NoEntry
+abbrev pub below : ℕ → ℕ → Result (Unit {0}) (NoRecord ℕ)
 below k m = cond (nat_lt k m) (Ok tt) (Err (record { number = k }))
