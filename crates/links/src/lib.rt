@@ -16,6 +16,7 @@ mod tables;
 mod theorems;
 
 pub use checking::check;
+pub use clause::rev;
 pub use fault::{CheckFault, FaultNumbers, Site};
 pub use settle::{settle_tables, shape_after};
 pub use shape::Shape;
