@@ -1,9 +1,8 @@
 //! What the tables of a draft or a map hold, record by record.
-ghost use Rattle.std.specs.Prelude.{◌≡◌, ℕ, ◌+◌, ◌*◌, ◌<◌, Bool, nat_lt};
+ghost use Rattle.std.specs.Prelude.{◌≡◌, ℕ, ◌<◌, Bool};
 ghost use Rattle.links.specs.Links.{Links};
-ghost use Rattle.links.specs.Tables.{entry_at, face_at, half_at};
 ghost use Rattle.links.specs.declared.shape.Shape.{Shape};
-ghost use Rattle.preset_map.specs.Records.{Reads};
+ghost use Rattle.preset_map.specs.Records.{Reads, of_entry, of_face, of_half};
 
 use crate::draft::Draft;
 use crate::map::Map;
@@ -30,7 +29,7 @@ pub trait Records {
     /// A number of an entry's record: x, y and `out_edge` are 0, 1 and 2.
     // Any field may be asked for: an enum would take fewer numbers, and so ask more of callers.
     final fn entry_number(&self, field: u8, v: u32) -> u32
-        ensures { result ≡ number self.now (nat_lt v (shape self.now).entries) (entry_at (shape self.now) v + field) }
+        ensures { result ≡ of_entry (shape self.now) (number self.now) field v }
     {
         let s = self.shape();
         self.number(v < s.entries, 3 * v as usize + field as usize)
@@ -38,7 +37,7 @@ pub trait Records {
 
     /// A link of a half: `next`, `prev`, `face` and `origin` are 0, 1, 2 and 3; any number may be asked for, as at an entry.
     final fn half_number(&self, field: u8, h: u32) -> u32
-        ensures { result ≡ number self.now (nat_lt h (2 * (shape self.now).edges)) (half_at (shape self.now) h + field) }
+        ensures { result ≡ of_half (shape self.now) (number self.now) field h }
     {
         let s = self.shape();
         let start = 3 * s.entries as usize + 4 * h as usize;
@@ -47,7 +46,7 @@ pub trait Records {
 
     /// The link of a face: its `adjacent_edge`.
     final fn adjacent_edge(&self, k: u32) -> u32
-        ensures number { result ≡ number self.now (nat_lt k (shape self.now).faces) (face_at (shape self.now) k) }
+        ensures number { result ≡ of_face (shape self.now) (number self.now) k }
         ensures link { result ≡ (links self.now).adj k }
     {
         let s = self.shape();
@@ -57,7 +56,7 @@ pub trait Records {
 
     /// The x of entry v.
     final fn x(&self, v: u32) -> u32
-        ensures number { result ≡ number self.now (nat_lt v (shape self.now).entries) (entry_at (shape self.now) v + 0) }
+        ensures number { result ≡ of_entry (shape self.now) (number self.now) 0 v }
         ensures place { v < (shape self.now).n → result ≡ (links self.now).x v }
     {
         self.entry_number(0, v)
@@ -65,7 +64,7 @@ pub trait Records {
 
     /// The y of entry v.
     final fn y(&self, v: u32) -> u32
-        ensures number { result ≡ number self.now (nat_lt v (shape self.now).entries) (entry_at (shape self.now) v + 1) }
+        ensures number { result ≡ of_entry (shape self.now) (number self.now) 1 v }
         ensures place { v < (shape self.now).n → result ≡ (links self.now).y v }
     {
         self.entry_number(1, v)
