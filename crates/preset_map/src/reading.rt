@@ -1,12 +1,13 @@
 //! What the tables of a draft or a map hold, record by record.
 ghost use Rattle.std.specs.Prelude.{◌≡◌, ℕ, ◌<◌, Bool};
 ghost use Rattle.links.specs.Links.{Links};
+ghost use Rattle.links.specs.Tables.{looked};
 ghost use Rattle.links.specs.declared.shape.Shape.{Shape};
 ghost use Rattle.preset_map.specs.Records.{Reads, of_entry, of_face, of_half};
 
 use crate::draft::Draft;
 use crate::map::Map;
-use links::{NONE, Shape, look};
+use links::{Shape, look};
 
 /// Link tables that can be read record by record. Any number may be asked for: what lies past its table reads none.
 pub trait Records {
@@ -20,9 +21,9 @@ pub trait Records {
     fn shape(&self) -> Shape
         ensures { result ≡ shape self.now };
 
-    /// The number at a place of the memory, if it belongs to its table; else none.
-    fn number(&self, in_table: bool, at: usize) -> u32
-        ensures { result ≡ number self.now in_table at };
+    /// The memory that is read: nothing of an empty map.
+    fn words(&self) -> &[u32]
+        ensures { (in_table : Bool) (at : ℕ) → looked result.now in_table at ≡ number self.now in_table at };
 
     ghost reads: { (t : Self) → Reads (shape t) (number t) (links t) };
 
@@ -32,7 +33,7 @@ pub trait Records {
         ensures { result ≡ of_entry (shape self.now) (number self.now) field v }
     {
         let s = self.shape();
-        self.number(v < s.entries, 3 * v as usize + field as usize)
+        look(self.words(), v < s.entries, 3 * v as usize + field as usize)
     }
 
     /// A link of a half: `next`, `prev`, `face` and `origin` are 0, 1, 2 and 3; any number may be asked for, as at an entry.
@@ -41,7 +42,11 @@ pub trait Records {
     {
         let s = self.shape();
         let start = 3 * s.entries as usize + 4 * h as usize;
-        self.number((h as u64) < 2 * s.edges as u64, start + field as usize)
+        look(
+            self.words(),
+            (h as u64) < 2 * s.edges as u64,
+            start + field as usize,
+        )
     }
 
     /// The link of a face: its `adjacent_edge`.
@@ -51,7 +56,11 @@ pub trait Records {
     {
         let s = self.shape();
         let edges = 8 * s.edges as usize;
-        self.number(k < s.faces, 3 * s.entries as usize + edges + k as usize)
+        look(
+            self.words(),
+            k < s.faces,
+            3 * s.entries as usize + edges + k as usize,
+        )
     }
 
     /// The x of entry v.
@@ -107,7 +116,6 @@ pub trait Records {
 }
 
 impl<'a> Records for Draft<'a> {
-    ghost use Rattle.links.specs.Tables.{looked};
     ghost use Rattle.preset_map.specs.Records.{listed, listed_reads};
 
     ghost shape = { λ d. d.shape };
@@ -122,8 +130,8 @@ impl<'a> Records for Draft<'a> {
         self.shape
     }
 
-    fn number(&self, in_table: bool, at: usize) -> u32 {
-        look(self.words, in_table, at)
+    fn words(&self) -> &[u32] {
+        self.words
     }
 }
 
@@ -143,10 +151,7 @@ impl<'a> Records for Map<'a> {
         self.shape
     }
 
-    fn number(&self, in_table: bool, at: usize) -> u32 {
-        if self.shape.n == 0 {
-            return NONE;
-        }
-        look(self.words, in_table, at)
+    fn words(&self) -> &[u32] {
+        if self.shape.n == 0 { &[] } else { self.words }
     }
 }
