@@ -40,8 +40,8 @@ pub fn compare_places<E: HasPosition>(
     if counted != map.shape().n as usize {
         return Err(Differs::Count(counted));
     }
-    match lowest_apart(map, shelf) {
-        Some(v) => Err(Differs::Place(v)),
-        None => Ok(()),
+    if let Some(v) = lowest_apart(map, shelf) {
+        return Err(Differs::Place(v));
     }
+    Ok(())
 }

@@ -1,7 +1,7 @@
 -- A walk around a cycle from both ends hands out each of its halves once, then none.
 use Rattle.std.specs.Prelude.{◌≡◌, ℕ, zero, suc, ◌+◌, ◌<◌, ◌≤◌, Bool, true, false, cond, ◌⊎◌, List, [], ◌∷◌, map, Some, None, Option, refl}
 use Rattle.std.specs.Option.{option_map}
-use Rattle.std.proofs.Common.{sym, ◌∙◌, ap, ap₂, subst, inl, inr, arith, eq-or-lt_of_le, eq-eqb, ne_eqb, lt-ltb}
+use Rattle.std.proofs.Common.{sym, ◌∙◌, ap, ap₂, subst, inl, inr, arith, eq-or-lt_of_le, eq-eqb, ne_eqb, lt-ltb, add-zero, zero-add}
 use Rattle.std.proofs.Math.Decide.{ℕ_discrete}
 use Rattle.std.proofs.Math.ListN.{get_or-map}
 use Rattle.std.proofs.lemmas.Bool.{cases_order}
@@ -33,20 +33,11 @@ module _ (step back : ℕ → ℕ) (H : ℕ) (undone : (h : ℕ) → h < H → b
   rest i (suc k) = around (W i) (W (i + suc k))
 
   begins : (k : ℕ) → 0 < k → rest 0 k ≡ around s (W k)
-  begins zero l = absurd (no l)
-    where
-      no : 0 < 0 → ⊥
-      no l = omega arith
-  begins (suc k) l = ap (λ z. around s (W z)) (plus (suc k))
-    where
-      plus : (z : ℕ) → 0 + z ≡ z
-      plus z = omega arith
+  begins zero l = absurd (omega arith)
+  begins (suc k) l = ap (λ z. around s (W z)) (zero-add (suc k))
 
   met : (i k : ℕ) → i + k ≤ K → k < K → between (W i) (W (i + k)) ≡ rest i k
-  met i zero m l = ap (λ b. cond b done (around (W i) (W (i + 0)))) (eq-eqb (W i) (W (i + 0)) (ap W (plus i)))
-    where
-      plus : (z : ℕ) → z ≡ z + 0
-      plus z = omega arith
+  met i zero m l = ap (λ b. cond b done (around (W i) (W (i + 0)))) (eq-eqb (W i) (W (i + 0)) (ap W (sym (add-zero i))))
   met i (suc k) m l = ap (λ b. cond b done (around (W i) (W (i + suc k)))) (ne_eqb (W i) (W (i + suc k)) (apart i (i + suc k) (omega arith) m (omega arith)))
 
   both : (i k : ℕ) → ready H (rest i (suc k)) ≡ Some (record { current = W i; last = W (i + suc k) })

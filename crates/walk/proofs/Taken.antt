@@ -21,14 +21,8 @@ hit_off j k n = ap (λ b. cond b 1 0) (ne_eqb k j n)
 off : (bs : List Bool) (i k j : ℕ) → (i ≤ j → i + k ≤ j) → times j (taken bs i k) ≡ 0
 off [] i k j o = refl
 off (b ∷ bs) i zero j o = rw (off bs i zero j o) refl
-off (true ∷ bs) i (suc k) j o = rw (hit_off j i (λ e. absurd (no e)), off bs (suc i) k j (λ l. omega arith)) refl
-  where
-    no : i ≡ j → ⊥
-    no e = omega arith
-off (false ∷ bs) i (suc k) j o = rw (hit_off j (i + k) (λ e. absurd (no e)), off bs i k j (λ l. omega arith)) refl
-  where
-    no : i + k ≡ j → ⊥
-    no e = omega arith
+off (true ∷ bs) i (suc k) j o = rw (hit_off j i (λ e. omega arith), off bs (suc i) k j (λ l. omega arith)) refl
+off (false ∷ bs) i (suc k) j o = rw (hit_off j (i + k) (λ e. omega arith), off bs i k j (λ l. omega arith)) refl
 
 -- nothing is taken twice
 pub few : (bs : List Bool) (i k j : ℕ) → times j (taken bs i k) ≤ 1
@@ -47,10 +41,7 @@ few (false ∷ bs) i (suc k) j =
 
 -- what is in the row is taken, if there are steps enough
 pub one : (bs : List Bool) (i k j : ℕ) → i ≤ j → j < i + k → k ≤ length bs → times j (taken bs i k) ≡ 1
-one bs i zero j l r m = absurd (none l r)
-  where
-    none : i ≤ j → j < i + 0 → ⊥
-    none l r = omega arith
+one bs i zero j l r m = absurd (omega arith)
 one [] i (suc k) j l r m = absurd (not-suc-le-zero m)
 one (true ∷ bs) i (suc k) j l r m =
     elim (ℕ_discrete i j) [

@@ -3,7 +3,8 @@ ghost use Rattle.std.specs.Prelude.{◌≡◌, ℕ, ◌<◌};
 ghost use Rattle.links.specs.Links.{Links, ccw, cw, halves};
 ghost use Rattle.links.specs.Rules.{Sound};
 ghost use Rattle.preset_map.specs.MapLinks.{links_of};
-ghost use Rattle.walk.specs.Undone.{cw_ccw, ccw_cw};
+ghost use Rattle.planar.proofs.Rings.{cw_ccw, ccw_cw};
+ghost use Rattle.planar.proofs.Views.{ranges_of, weave_of};
 
 use links::rev;
 use preset_map::{Map, Records};
@@ -26,16 +27,16 @@ pub trait NextBackFn {
 }
 
 /// Counterclockwise about an entry.
-pub struct Rotation {}
+pub struct Rotation;
 
 impl NextBackFn for Rotation {
     ghost step = { ccw };
 
     ghost back = { cw };
 
-    ghost undone = { λ m h s l. cw_ccw m s h l };
+    ghost undone = { λ m h s l. cw_ccw m (ranges_of m s) (weave_of m s) h l };
 
-    ghost redone = { λ m h s l. ccw_cw m s h l };
+    ghost redone = { λ m h s l. ccw_cw m (ranges_of m s) (weave_of m s) h l };
 
     fn next(map: &Map<'_>, h: u32) -> u32 {
         rev(map.prev(h))
@@ -47,7 +48,7 @@ impl NextBackFn for Rotation {
 }
 
 /// Along the outer face.
-pub struct Hull {}
+pub struct Hull;
 
 impl NextBackFn for Hull {
     ghost step = { λ m. m.next };

@@ -53,6 +53,7 @@ impl Walk {
 }
 
 /// A walk from a link: around its cycle, or empty where the link is none.
+// None is a number only in the tables: it ends here.
 fn walk_from(link: u32) -> Walk
     ensures { result ≡ start_at link }
 {
