@@ -10,7 +10,7 @@ use crate::tables::{Request, read_request, show, tell_check, tell_settle, write_
 use crate::walks::play_walk;
 use entry::{Point2, Preset};
 use links::{NONE, Shape};
-use preset_map::{Draft, Map};
+use preset_map::{Draft, Map, Records, Refused};
 use std::io;
 use std::str::from_utf8;
 
@@ -211,8 +211,10 @@ fn play_draft<E: Written>(
             Turn::Stay | Turn::Reopen => {}
             Turn::Settle => {
                 let counted = count.unwrap_or(shelf.len());
-                let mut verdict = Ok(());
-                let map = draft.settle(shelf.as_slice(), counted, &mut verdict);
+                let (map, verdict) = match draft.settle(shelf.as_slice(), counted) {
+                    Ok(map) => (map, Ok(())),
+                    Err(Refused { fault, map }) => (map, Err(fault)),
+                };
                 tell_settle(rt, verdict, map.shape())?;
                 let mut left = Ok(Turn::Stay);
                 draft = play_map(rt, script, shelf, count, map, &mut left);

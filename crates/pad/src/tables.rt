@@ -4,8 +4,9 @@ ghost use Rattle.std.specs.Prelude.{◌≤◌, IfOk};
 use crate::complaint::{Complaint, Trouble};
 use crate::kind::Written;
 use crate::script::Words;
+use entry::NoRecord;
 use links::{CheckFault, NONE, Shape};
-use preset_map::{Draft, Map, NoRecord};
+use preset_map::{Draft, HalfLinks, Records};
 use std::{fmt, io};
 
 /// The most numbers that a script's tables may take.
@@ -106,14 +107,11 @@ fn tell_write(
     rt: &HostRuntime,
     command: &str,
     number: u32,
-    done: Result<(), NoRecord>,
+    done: Result<(), NoRecord<u32>>,
 ) -> io::Result<()> {
     match done {
         Ok(()) => println!(rt; "{command} {number}: written"),
-        Err(refused) => {
-            let asked = refused.number;
-            println!(rt; "{command} {number}: refused, fault 9 number {asked}")
-        }
+        Err(refused) => println!(rt; "{command} {number}: refused, {refused}"),
     }
 }
 
@@ -133,12 +131,14 @@ pub fn write_record<'a>(
         }
         "half" => {
             let h = words.number::<u32>("half number")?;
-            let next = read_link(words, "next")?;
-            let prev = read_link(words, "prev")?;
-            let face = read_link(words, "face")?;
-            let origin = read_link(words, "origin")?;
+            let links = HalfLinks {
+                next: read_link(words, "next")?,
+                prev: read_link(words, "prev")?,
+                face: read_link(words, "face")?,
+                origin: read_link(words, "origin")?,
+            };
             words.end()?;
-            tell_write(rt, command, h, draft.set_half(h, next, prev, face, origin))?;
+            tell_write(rt, command, h, draft.set_half(h, links))?;
         }
         "face" => {
             let k = words.number::<u32>("face number")?;
@@ -170,75 +170,28 @@ pub fn tell_settle(rt: &HostRuntime, verdict: Result<(), CheckFault>, s: Shape) 
     }
 }
 
-/// Tables that can be shown.
-pub trait Shown {
-    fn counts(&self) -> Shape;
-
-    fn entry(&self, field: u8, v: u32) -> u32;
-
-    fn half(&self, field: u8, h: u32) -> u32;
-
-    fn face(&self, k: u32) -> u32;
-}
-
-impl<'a> Shown for Draft<'a> {
-    fn counts(&self) -> Shape {
-        self.shape()
-    }
-
-    fn entry(&self, field: u8, v: u32) -> u32 {
-        self.entry_number(field, v)
-    }
-
-    fn half(&self, field: u8, h: u32) -> u32 {
-        self.half_number(field, h)
-    }
-
-    fn face(&self, k: u32) -> u32 {
-        self.adjacent_edge(k)
-    }
-}
-
-impl<'a> Shown for Map<'a> {
-    fn counts(&self) -> Shape {
-        self.shape()
-    }
-
-    fn entry(&self, field: u8, v: u32) -> u32 {
-        self.entry_number(field, v)
-    }
-
-    fn half(&self, field: u8, h: u32) -> u32 {
-        self.half_number(field, h)
-    }
-
-    fn face(&self, k: u32) -> u32 {
-        self.adjacent_edge(k)
-    }
-}
-
 /// `show`: counts, places, links.
-pub fn show<T: Shown>(rt: &HostRuntime, tables: &T) -> io::Result<()> {
-    let s = tables.counts();
+pub fn show<T: Records>(rt: &HostRuntime, tables: &T) -> io::Result<()> {
+    let s = tables.shape();
     let n = s.n;
     let e = s.e;
     let f = s.f;
     println!(rt; "show: n {n} e {e} f {f}")?;
     for v in 0..n {
-        let x = Link(tables.entry(0, v));
-        let y = Link(tables.entry(1, v));
-        let out = Link(tables.entry(2, v));
+        let x = Link(tables.x(v));
+        let y = Link(tables.y(v));
+        let out = Link(tables.out_edge(v));
         println!(rt; "  entry {v}: place {x} {y}, out_edge {out}")?;
     }
     for h in 0..e.saturating_mul(2) {
-        let next = Link(tables.half(0, h));
-        let prev = Link(tables.half(1, h));
-        let face = Link(tables.half(2, h));
-        let origin = Link(tables.half(3, h));
+        let next = Link(tables.next(h));
+        let prev = Link(tables.prev(h));
+        let face = Link(tables.face(h));
+        let origin = Link(tables.origin(h));
         println!(rt; "  half {h}: next {next} prev {prev} face {face} origin {origin}")?;
     }
     for k in 0..f {
-        let link = Link(tables.face(k));
+        let link = Link(tables.adjacent_edge(k));
         println!(rt; "  face {k}: adjacent_edge {link}")?;
     }
     Ok(())

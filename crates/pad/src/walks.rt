@@ -63,10 +63,7 @@ fn tell_entry<'a>(
             print!(rt; "walk {v}:")?;
             tell::<walk::Rotation>(rt, start, map, way)?;
         }
-        Err(refused) => {
-            let asked = refused.number;
-            println!(rt; "walk {v}: refused, fault 9 number {asked}")?;
-        }
+        Err(refused) => println!(rt; "walk {v}: refused, {refused}")?,
     }
     Ok(())
 }

@@ -1,26 +1,21 @@
 -- The lowest entry whose place differs.
-use Rattle.std.proofs.Common.{◌≡◌, ℕ, ◌<◌, min, true, false, cond, Ok, Err, Result, sym, ap, ◌∙◌, subst, arith, eq-eqb, ne_eqb}
+use Rattle.std.proofs.Common.{◌≡◌, ℕ, ◌<◌, ◌≤◌, Bool, true, false, Result, Some, None, Option, MatchOption, List, length, get_or, zero-le, sym, ap, ◌∙◌}
+use Rattle.entry.specs.Placing.{spot_of}
+use Rattle.entry.specs.declared.fault.Cause.{Cause}
 use Rattle.entry.specs.declared.fault.EntryFault.{EntryFault}
-use Rattle.links.specs.Links.{Links}
+use Rattle.links.specs.Shelf.{spot_at}
 use Rattle.links.specs.Verdict.{failing}
 use Rattle.links.proofs.First.{none_failing, first_failing_is}
-use Rattle.preset_map.specs.declared.agreeing.Differs.TheVariants.{Count, Place}
-use Rattle.preset_map.specs.Agreeing.{is_same_spot, lowest, agreement}
+use Rattle.links.proofs.Spots.{spot_is}
 
--- a number below the count is below the length
-pub within : (count len v n : ℕ) → min count len ≡ n → v < n → v < len
-within count len v n e l = omega arith
+-- the place of entry v of a shelf, as it was read
+pub spot_read : {E Sc : Type 0} (reading : Sc → Result ℕ Cause) (across along : E → Sc) (es : List E) (v : ℕ) (e : E) {r : Result (ℕ × ℕ) EntryFault}
+    → v < length es → e ≡ get_or es v e → r ≡ spot_of reading (across e) (along e) → spot_at reading across along es v ≡ r
+spot_read reading across along es v e l is at = spot_is reading across along es v e l ∙ ap (λ z. spot_of reading (across z) (along z)) (sym is) ∙ sym at
 
-module _ (m : Links) (spot : ℕ → Result (ℕ × ℕ) EntryFault) (n count : ℕ) (n_is : m.n ≡ n) where
-  pub other_count : ¬ (count ≡ n) → agreement m spot count ≡ Err (Count count)
-  other_count d = ap (λ b. cond b (lowest (failing m.n (λ v. is_same_spot (spot v) (m.x v) (m.y v)))) (Err (Count count))) (ne_eqb count m.n (λ e. d (e ∙ n_is)))
-
-  pub all_agree : count ≡ n → ((v : ℕ) → v < n → is_same_spot (spot v) (m.x v) (m.y v) ≡ true) → agreement m spot count ≡ Ok tt
-  all_agree e h =
-      ap (λ b. cond b (lowest (failing m.n (λ v. is_same_spot (spot v) (m.x v) (m.y v)))) (Err (Count count))) (eq-eqb count m.n (e ∙ sym n_is))
-      ∙ ap lowest (none_failing m.n (λ v. is_same_spot (spot v) (m.x v) (m.y v)) (λ v l. h v (subst (λ z. v < z) n_is l)))
-
-  pub one_differs : count ≡ n → (v : ℕ) → v < n → ((u : ℕ) → u < v → is_same_spot (spot u) (m.x u) (m.y u) ≡ true) → is_same_spot (spot v) (m.x v) (m.y v) ≡ false → agreement m spot count ≡ Err (Place v)
-  one_differs e v l h d =
-      ap (λ b. cond b (lowest (failing m.n (λ v. is_same_spot (spot v) (m.x v) (m.y v)))) (Err (Count count))) (eq-eqb count m.n (e ∙ sym n_is))
-      ∙ ap lowest (first_failing_is m.n (λ v. is_same_spot (spot v) (m.x v) (m.y v)) v (subst (λ z. v < z) (sym n_is) l) h d)
+-- what a search from 0 up to n tells
+pub found : (n : ℕ) (test : ℕ → Bool) (o : Option ℕ)
+    → MatchOption o ((v : ℕ) → 0 ≤ v → v < n → test v ≡ true) (λ v. (0 ≤ v) × (v < n) × (test v ≡ false) × ((u : ℕ) → 0 ≤ u → u < v → test u ≡ true))
+    → o ≡ failing n test
+found n test None h = sym (none_failing n test (λ v l. h v zero-le l))
+found n test (Some v) h = sym (first_failing_is n test v h.1 (λ u l. h.3 u zero-le l) h.2)

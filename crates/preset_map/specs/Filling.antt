@@ -1,8 +1,8 @@
 -- Writes of a draft: whether a record lies in its table and in the slice, and the slice after the write.
 use Rattle.std.specs.Prelude.{ℕ, ◌+◌, ◌*◌, Bool, true, false, ◌&&◌, List, length, Ok, Err, Result, nat_lt, slice_set}
+use Rattle.entry.specs.declared.fault.NoRecord.{NoRecord}
 use Rattle.links.specs.declared.shape.Shape.{Shape}
 use Rattle.links.specs.Tables.{entry_at, half_at, face_at}
-use Rattle.preset_map.specs.declared.draft.NoRecord.{NoRecord}
 
 -- the record is in its table, and its last number in the slice
 abbrev pub is_entry_in : List ℕ → Shape → ℕ → Bool
@@ -15,12 +15,12 @@ abbrev pub is_face_in : List ℕ → Shape → ℕ → Bool
 is_face_in w s k = nat_lt k s.faces && nat_lt (face_at s k) (length w)
 
 -- done, or the number asked for
-abbrev pub asked : Bool → ℕ → Result (Unit {0}) NoRecord
+abbrev pub asked : Bool → ℕ → Result (Unit {0}) (NoRecord ℕ)
 asked true i = Ok tt
 asked false i = Err (record { number = i })
 
 -- what the slice holds after a write that was done, or refused
-abbrev pub wrote : Result (Unit {0}) NoRecord → List ℕ → List ℕ → List ℕ
+abbrev pub wrote : Result (Unit {0}) (NoRecord ℕ) → List ℕ → List ℕ → List ℕ
 wrote (Ok u) after before = after
 wrote (Err f) after before = before
 

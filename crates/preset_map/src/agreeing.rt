@@ -1,8 +1,18 @@
 //! Whether a shelf is that of a map.
+use std::fmt;
 
 /// How a shelf differs from a map: by its count, or at an entry whose place differs or is missing.
-#[derive(Clone, Copy)]
+#[derive(Clone, Copy, PartialEq, Eq, Debug)]
 pub enum Differs {
     Count(usize),
     Place(u32),
+}
+
+impl fmt::Display for Differs {
+    fn fmt<W: fmt::Write>(&self, f: &mut fmt::Formatter<W>) -> fmt::Result {
+        match self {
+            Differs::Count(count) => write!(f, "fault 10 count {count}"),
+            Differs::Place(v) => write!(f, "fault 10 entry {v}"),
+        }
+    }
 }

@@ -1,39 +1,31 @@
 //! The places of a shelf, compared with those of a map.
-ghost use Rattle.std.specs.Prelude.{◌≡◌, ◌<◌, min, length};
-ghost use Rattle.entry.specs.Placing.{spot_of};
-ghost use Rattle.links.specs.Kept.{map_links};
+ghost use Rattle.std.specs.Prelude.{◌≡◌, ◌<◌, ◌≤◌, min, length};
 ghost use Rattle.links.specs.Shelf.{spot_at};
+ghost use Rattle.links.specs.Verdict.{failing};
 ghost use Rattle.preset_map.specs.Agreeing.{agreement, is_same_spot};
+ghost use Rattle.preset_map.specs.MapLinks.{links_of};
 
 use crate::agreeing::Differs;
 use crate::map::Map;
+use crate::reading::Records;
 use entry::{HasPosition, place};
 
-/// The x of entry v.
-fn x_of(map: &Map<'_>, v: u32) -> u32
-    requires { v < map.now.shape.n }
-    ensures { result ≡ (map_links map.now.words.now map.now.shape).x v }
+/// Whether entry v of a shelf is at the place of the map's.
+fn is_at<E: HasPosition>(map: &Map<'_>, shelf: &[E], v: u32) -> bool
+    requires counted { v < map.now.shape.n }
+    requires within { v < length shelf.now }
+    ensures { result ≡ is_same_spot (spot_at E.Scalar.reading E.across E.along shelf.now v) ((links_of map.now).x v) ((links_of map.now).y v) }
 {
-    map.entry_number(0, v)
+    let there = (map.x(v), map.y(v));
+    place(&shelf[v as usize]).is_ok_and(|spot| (spot.x() as u32, spot.y() as u32) == there)
 }
 
-/// The y of entry v.
-fn y_of(map: &Map<'_>, v: u32) -> u32
-    requires { v < map.now.shape.n }
-    ensures { result ≡ (map_links map.now.words.now map.now.shape).y v }
+/// The lowest entry whose place differs or is missing.
+fn lowest_apart<E: HasPosition>(map: &Map<'_>, shelf: &[E]) -> Option<u32>
+    requires { map.now.shape.n ≤ length shelf.now }
+    ensures { result ≡ failing (links_of map.now).n (λ v. is_same_spot (spot_at E.Scalar.reading E.across E.along shelf.now v) ((links_of map.now).x v) ((links_of map.now).y v)) }
 {
-    map.entry_number(1, v)
-}
-
-/// Whether an entry is at the place of entry v.
-fn is_at<E: HasPosition>(map: &Map<'_>, v: u32, entry: &E) -> bool
-    requires { v < map.now.shape.n }
-    ensures { result ≡ is_same_spot (spot_of E.Scalar.reading (E.across entry.now) (E.along entry.now)) ((map_links map.now.words.now map.now.shape).x v) ((map_links map.now.words.now map.now.shape).y v) }
-{
-    match place(entry) {
-        Ok(spot) => spot.x() as u32 == x_of(map, v) && spot.y() as u32 == y_of(map, v),
-        Err(_) => false,
-    }
+    (0..map.shape().n).find(|v| !is_at(map, shelf, *v))
 }
 
 /// Compares a shelf with a map: its count as read, then the place of each entry.
@@ -42,17 +34,14 @@ pub fn compare_places<E: HasPosition>(
     shelf: &[E],
     count: usize,
 ) -> Result<(), Differs>
-    ensures { result ≡ agreement (map_links map.now.words.now map.now.shape) (spot_at E.Scalar.reading E.across E.along shelf.now) (min count (length shelf.now)) }
+    ensures { result ≡ agreement (links_of map.now) (spot_at E.Scalar.reading E.across E.along shelf.now) (min count (length shelf.now)) }
 {
     let counted = count.min(shelf.len());
-    let n = map.shape().n;
-    if counted != n as usize {
+    if counted != map.shape().n as usize {
         return Err(Differs::Count(counted));
     }
-    for v in 0..n {
-        if !is_at(map, v, &shelf[v as usize]) {
-            return Err(Differs::Place(v));
-        }
+    if let Some(v) = lowest_apart(map, shelf) {
+        return Err(Differs::Place(v));
     }
     Ok(())
 }

@@ -6,11 +6,13 @@ use links::Shape;
 pub struct Draft<'a> {
     pub(crate) words: &'a mut [u32],
     pub(crate) shape: Shape,
-    ghost any: { Unit {0} },
 }
 
-/// No record of this number: it is past its table or past the slice.
-#[derive(Clone, Copy)]
-pub struct NoRecord {
-    pub number: u32,
+/// The four links of a half; any of them may be wrong, or none.
+#[derive(Clone, Copy, PartialEq, Eq, Debug)]
+pub struct HalfLinks {
+    pub next: u32,
+    pub prev: u32,
+    pub face: u32,
+    pub origin: u32,
 }

@@ -2,7 +2,8 @@
 ghost use Rattle.std.specs.Prelude.{◌≡◌};
 ghost use Rattle.preset_map.specs.Filling.{is_half_in, is_entry_in, is_face_in, with_half, with_out, with_face, wrote, asked};
 
-use crate::draft::{Draft, NoRecord};
+use crate::draft::{Draft, HalfLinks};
+use entry::NoRecord;
 use links::Shape;
 
 impl<'a> Draft<'a> {
@@ -14,15 +15,8 @@ impl<'a> Draft<'a> {
         Draft { words, shape }
     }
 
-    /// The counts and the lengths of the tables.
-    pub fn shape(&self) -> Shape
-        ensures { result ≡ self.now.shape }
-    {
-        self.shape
-    }
-
     /// Writes the `out_edge` of entry v.
-    pub fn set_out_edge(&mut self, v: u32, out_edge: u32) -> Result<(), NoRecord>
+    pub fn set_out_edge(&mut self, v: u32, out_edge: u32) -> Result<(), NoRecord<u32>>
         ensures outcome { result ≡ asked (is_entry_in self.old.words.now self.old.shape v) v }
         ensures words { self.new.words.now ≡ wrote result (with_out self.old.words.now v out_edge) self.old.words.now }
         ensures shape { self.new.shape ≡ self.old.shape }
@@ -36,31 +30,24 @@ impl<'a> Draft<'a> {
     }
 
     /// Writes the four links of half h.
-    pub fn set_half(
-        &mut self,
-        h: u32,
-        next: u32,
-        prev: u32,
-        face: u32,
-        origin: u32,
-    ) -> Result<(), NoRecord>
+    pub fn set_half(&mut self, h: u32, links: HalfLinks) -> Result<(), NoRecord<u32>>
         ensures outcome { result ≡ asked (is_half_in self.old.words.now self.old.shape h) h }
-        ensures words { self.new.words.now ≡ wrote result (with_half self.old.words.now self.old.shape h next prev face origin) self.old.words.now }
+        ensures words { self.new.words.now ≡ wrote result (with_half self.old.words.now self.old.shape h links.next links.prev links.face links.origin) self.old.words.now }
         ensures shape { self.new.shape ≡ self.old.shape }
     {
         let at = 3 * self.shape.entries as usize + 4 * h as usize;
         if h as usize >= 2 * self.shape.edges as usize || at + 3 >= self.words.len() {
             return Err(NoRecord { number: h });
         }
-        self.words[at] = next;
-        self.words[at + 1] = prev;
-        self.words[at + 2] = face;
-        self.words[at + 3] = origin;
+        self.words[at] = links.next;
+        self.words[at + 1] = links.prev;
+        self.words[at + 2] = links.face;
+        self.words[at + 3] = links.origin;
         Ok(())
     }
 
     /// Writes the `adjacent_edge` of face k.
-    pub fn set_adjacent_edge(&mut self, k: u32, adjacent_edge: u32) -> Result<(), NoRecord>
+    pub fn set_adjacent_edge(&mut self, k: u32, adjacent_edge: u32) -> Result<(), NoRecord<u32>>
         ensures outcome { result ≡ asked (is_face_in self.old.words.now self.old.shape k) k }
         ensures words { self.new.words.now ≡ wrote result (with_face self.old.words.now self.old.shape k adjacent_edge) self.old.words.now }
         ensures shape { self.new.shape ≡ self.old.shape }

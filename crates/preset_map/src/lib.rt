@@ -7,11 +7,14 @@ mod draft;
 mod filling;
 mod map;
 mod reading;
+mod refused;
 mod settling;
 mod theorems;
 
 pub use agreeing::Differs;
 pub use comparing::compare_places;
-pub use draft::{Draft, NoRecord};
+pub use draft::{Draft, HalfLinks};
 pub use map::Map;
+pub use reading::Records;
+pub use refused::Refused;
 pub use theorems::writes_update_stands;

@@ -1,95 +1,157 @@
 //! What the tables of a draft or a map hold, record by record.
-ghost use Rattle.std.specs.Prelude.{◌≡◌, ◌+◌, ◌*◌, if◌then◌else◌, nat_eq, nat_lt};
+ghost use Rattle.std.specs.Prelude.{◌≡◌, ℕ, ◌<◌, Bool};
+ghost use Rattle.links.specs.Links.{Links};
 ghost use Rattle.links.specs.Tables.{looked};
-ghost use Rattle.links.specs.Links.{none};
-ghost use Rattle.links.specs.Tables.{entry_at, face_at, half_at};
+ghost use Rattle.links.specs.declared.shape.Shape.{Shape};
+ghost use Rattle.preset_map.specs.Records.{Reads, of_entry, of_face, of_half};
 
 use crate::draft::Draft;
 use crate::map::Map;
-use links::{NONE, Shape, look};
+use links::{Shape, look};
 
-/// The numbers of an entry: x, y and `out_edge` are 0, 1 and 2.
-fn entry_number(words: &[u32], s: Shape, field: u8, v: u32) -> u32
-    ensures { result ≡ looked words.now (nat_lt v s.entries) (entry_at s v + field) }
-{
-    look(words, v < s.entries, 3 * v as usize + field as usize)
+/// Link tables that can be read record by record. Any number may be asked for: what lies past its table reads none.
+pub trait Records {
+    ghost shape: { Self → Shape };
+
+    ghost number: { Self → Bool → ℕ → ℕ };
+
+    ghost links: { Self → Links };
+
+    /// The counts and the lengths of the tables.
+    fn shape(&self) -> Shape
+        ensures { result ≡ shape self.now };
+
+    /// The memory that is read: nothing of an empty map.
+    fn words(&self) -> &[u32]
+        ensures { (in_table : Bool) (at : ℕ) → looked result.now in_table at ≡ number self.now in_table at };
+
+    ghost reads: { (t : Self) → Reads (shape t) (number t) (links t) };
+
+    /// A number of an entry's record: x, y and `out_edge` are 0, 1 and 2.
+    // Any field may be asked for: an enum would take fewer numbers, and so ask more of callers.
+    final fn entry_number(&self, field: u8, v: u32) -> u32
+        ensures { result ≡ of_entry (shape self.now) (number self.now) field v }
+    {
+        let s = self.shape();
+        look(self.words(), v < s.entries, 3 * v as usize + field as usize)
+    }
+
+    /// A link of a half: `next`, `prev`, `face` and `origin` are 0, 1, 2 and 3; any number may be asked for, as at an entry.
+    final fn half_number(&self, field: u8, h: u32) -> u32
+        ensures { result ≡ of_half (shape self.now) (number self.now) field h }
+    {
+        let s = self.shape();
+        let start = 3 * s.entries as usize + 4 * h as usize;
+        look(
+            self.words(),
+            (h as u64) < 2 * s.edges as u64,
+            start + field as usize,
+        )
+    }
+
+    /// The link of a face: its `adjacent_edge`.
+    final fn adjacent_edge(&self, k: u32) -> u32
+        ensures number { result ≡ of_face (shape self.now) (number self.now) k }
+        ensures link { result ≡ (links self.now).adj k }
+    {
+        let s = self.shape();
+        let edges = 8 * s.edges as usize;
+        look(
+            self.words(),
+            k < s.faces,
+            3 * s.entries as usize + edges + k as usize,
+        )
+    }
+
+    /// The x of entry v.
+    final fn x(&self, v: u32) -> u32
+        ensures number { result ≡ of_entry (shape self.now) (number self.now) 0 v }
+        ensures place { v < (shape self.now).n → result ≡ (links self.now).x v }
+    {
+        self.entry_number(0, v)
+    }
+
+    /// The y of entry v.
+    final fn y(&self, v: u32) -> u32
+        ensures number { result ≡ of_entry (shape self.now) (number self.now) 1 v }
+        ensures place { v < (shape self.now).n → result ≡ (links self.now).y v }
+    {
+        self.entry_number(1, v)
+    }
+
+    /// The `out_edge` of entry v.
+    final fn out_edge(&self, v: u32) -> u32
+        ensures { result ≡ (links self.now).out v }
+    {
+        self.entry_number(2, v)
+    }
+
+    /// The `next` of half h.
+    final fn next(&self, h: u32) -> u32
+        ensures { result ≡ (links self.now).next h }
+    {
+        self.half_number(0, h)
+    }
+
+    /// The `prev` of half h.
+    final fn prev(&self, h: u32) -> u32
+        ensures { result ≡ (links self.now).prev h }
+    {
+        self.half_number(1, h)
+    }
+
+    /// The face of half h.
+    final fn face(&self, h: u32) -> u32
+        ensures { result ≡ (links self.now).face h }
+    {
+        self.half_number(2, h)
+    }
+
+    /// The origin of half h.
+    final fn origin(&self, h: u32) -> u32
+        ensures { result ≡ (links self.now).origin h }
+    {
+        self.half_number(3, h)
+    }
 }
 
-/// The numbers of a half: `next`, `prev`, `face` and `origin` are 0, 1, 2 and 3.
-fn half_number(words: &[u32], s: Shape, field: u8, h: u32) -> u32
-    ensures { result ≡ looked words.now (nat_lt h (2 * s.edges)) (half_at s h + field) }
-{
-    let start = 3 * s.entries as usize + 4 * h as usize;
-    look(
-        words,
-        (h as u64) < 2 * s.edges as u64,
-        start + field as usize,
-    )
-}
+impl<'a> Records for Draft<'a> {
+    ghost use Rattle.preset_map.specs.Records.{listed, listed_reads};
 
-/// The number of a face: its `adjacent_edge`.
-fn face_number(words: &[u32], s: Shape, k: u32) -> u32
-    ensures { result ≡ looked words.now (nat_lt k s.faces) (face_at s k) }
-{
-    let edges = 8 * s.edges as usize;
-    look(
-        words,
-        k < s.faces,
-        3 * s.entries as usize + edges + k as usize,
-    )
-}
+    ghost shape = { λ d. d.shape };
 
-impl<'a> Draft<'a> {
-    /// A number of an entry's record, or none past its table or the slice.
-    pub fn entry_number(&self, field: u8, v: u32) -> u32
-        ensures { result ≡ looked self.now.words.now (nat_lt v self.now.shape.entries) (entry_at self.now.shape v + field) }
-    {
-        entry_number(self.words, self.shape, field, v)
+    ghost number = { λ d. looked d.words.now };
+
+    ghost links = { λ d. listed d.shape (looked d.words.now) };
+
+    ghost reads = { λ d. listed_reads d.shape (looked d.words.now) };
+
+    fn shape(&self) -> Shape {
+        self.shape
     }
 
-    /// A link of a half, or none past its table or the slice.
-    pub fn half_number(&self, field: u8, h: u32) -> u32
-        ensures { result ≡ looked self.now.words.now (nat_lt h (2 * self.now.shape.edges)) (half_at self.now.shape h + field) }
-    {
-        half_number(self.words, self.shape, field, h)
-    }
-
-    /// The link of a face, or none past its table or the slice.
-    pub fn adjacent_edge(&self, k: u32) -> u32
-        ensures { result ≡ looked self.now.words.now (nat_lt k self.now.shape.faces) (face_at self.now.shape k) }
-    {
-        face_number(self.words, self.shape, k)
+    fn words(&self) -> &[u32] {
+        self.words
     }
 }
 
-impl<'a> Map<'a> {
-    /// A number of an entry's record, or none past its table; none in an empty map.
-    pub fn entry_number(&self, field: u8, v: u32) -> u32
-        ensures { result ≡ (if nat_eq self.now.shape.n 0 then none else looked self.now.words.now (nat_lt v self.now.shape.entries) (entry_at self.now.shape v + field)) }
-    {
-        if self.shape.n == 0 {
-            return NONE;
-        }
-        entry_number(self.words, self.shape, field, v)
+impl<'a> Records for Map<'a> {
+    ghost use Rattle.preset_map.specs.MapLinks.{links_of, number_of};
+    ghost use Rattle.preset_map.specs.MapReads.{map_reads};
+
+    ghost shape = { λ m. m.shape };
+
+    ghost number = { number_of };
+
+    ghost links = { links_of };
+
+    ghost reads = { map_reads };
+
+    fn shape(&self) -> Shape {
+        self.shape
     }
 
-    /// A link of a half, or none past its table; none in an empty map.
-    pub fn half_number(&self, field: u8, h: u32) -> u32
-        ensures { result ≡ (if nat_eq self.now.shape.n 0 then none else looked self.now.words.now (nat_lt h (2 * self.now.shape.edges)) (half_at self.now.shape h + field)) }
-    {
-        if self.shape.n == 0 {
-            return NONE;
-        }
-        half_number(self.words, self.shape, field, h)
-    }
-
-    /// The link of a face, or none past its table; none in an empty map.
-    pub fn adjacent_edge(&self, k: u32) -> u32
-        ensures { result ≡ (if nat_eq self.now.shape.n 0 then none else looked self.now.words.now (nat_lt k self.now.shape.faces) (face_at self.now.shape k)) }
-    {
-        if self.shape.n == 0 {
-            return NONE;
-        }
-        face_number(self.words, self.shape, k)
+    fn words(&self) -> &[u32] {
+        if self.shape.n == 0 { &[] } else { self.words }
     }
 }

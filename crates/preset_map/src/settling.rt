@@ -3,11 +3,13 @@ ghost use Rattle.std.specs.Prelude.{◌≡◌, ◌↔◌, take, Ok};
 ghost use Rattle.links.specs.Kept.{shape_after_check, words_after_check};
 ghost use Rattle.links.specs.Shelf.{answer, FitsShelf, spot_at};
 ghost use Rattle.links.specs.Verdict.{told};
+ghost use Rattle.preset_map.specs.Settled.{map_of, verdict_of};
 
 use crate::draft::Draft;
 use crate::map::Map;
+use crate::refused::Refused;
 use entry::HasPosition;
-use links::{CheckFault, Shape, check, settle_tables, shape_after};
+use links::{CheckFault, Shape, check, settle_tables};
 
 impl<'a> Draft<'a> {
     /// Judges the draft with a shelf: `Ok` exactly if they are sound, else the first clause that fails.
@@ -17,38 +19,33 @@ impl<'a> Draft<'a> {
     {
         check(self.words, self.shape, shelf, count)
     }
-}
 
-impl<'a> Draft<'a> {
     /// Uses the draft up: a map with the shelf's places where check accepts it, else check's fault beside an empty map.
-    pub fn settle<E: HasPosition>(
-        self,
-        shelf: &[E],
-        count: usize,
-        out: &mut Result<(), CheckFault>,
-    ) -> Map<'a>
-        ensures outcome { out.new ≡ told (answer E.Scalar.reading E.across E.along self.entry.words.now self.entry.shape shelf.now count) }
-        ensures words { result.words.now ≡ words_after_check out.new self.entry.words.now (spot_at E.Scalar.reading E.across E.along (take self.entry.shape.n shelf.now)) self.entry.shape.n }
-        ensures shape { result.shape ≡ shape_after_check out.new self.entry.shape }
+    pub fn settle<E: HasPosition>(self, shelf: &[E], count: usize) -> Result<Map<'a>, Refused<'a>>
+        ensures outcome { verdict_of result ≡ told (answer E.Scalar.reading E.across E.along self.entry.words.now self.entry.shape shelf.now count) }
+        ensures words { (map_of result).words.now ≡ words_after_check (verdict_of result) self.entry.words.now (spot_at E.Scalar.reading E.across E.along (take self.entry.shape.n shelf.now)) self.entry.shape.n }
+        ensures shape { (map_of result).shape ≡ shape_after_check (verdict_of result) self.entry.shape }
     {
         let Draft { words, shape } = self;
-        let verdict = settle_tables(words, shape, shelf, count);
-        *out = verdict;
-        Map {
-            words,
-            shape: shape_after(verdict, shape),
+        match settle_tables(words, shape, shelf, count) {
+            Ok(()) => Ok(Map { words, shape }),
+            Err(fault) => {
+                let map = Map {
+                    words,
+                    shape: Shape {
+                        n: 0,
+                        e: 0,
+                        f: 1,
+                        ..shape
+                    },
+                };
+                Err(Refused { fault, map })
+            }
         }
     }
 }
 
 impl<'a> Map<'a> {
-    /// The counts and the lengths of the tables.
-    pub fn shape(&self) -> Shape
-        ensures { result ≡ self.now.shape }
-    {
-        self.shape
-    }
-
     /// Gives the draft back, tables unchanged.
     pub fn reopen(self) -> Draft<'a>
         ensures words { result.words.now ≡ self.entry.words.now }

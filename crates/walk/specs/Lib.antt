@@ -2,4 +2,3 @@ pub mod Walking
 pub mod Handles
 pub mod Starting
 pub mod Theorems
-pub mod Undone

@@ -1,37 +1,54 @@
 -- A walk around a cycle, from both ends, by a step and the step that undoes it.
-use Rattle.std.specs.Prelude.{◌≡◌, ℕ, ◌+◌, ◌<◌, ◌≤◌, Bool, true, false, cond, ◌||◌, List, [], ◌∷◌, length, Some, None, Option, ◌==◌, nat_le, slice_index_or}
+use Rattle.std.specs.Prelude.{◌≡◌, ℕ, ◌+◌, ◌<◌, ◌≤◌, Bool, true, false, cond, ◌&&◌, List, [], ◌∷◌, length, Some, None, Option, ◌==◌, nat_lt, slice_index_or}
+use Rattle.std.specs.Option.{option_map}
+use Rattle.walk.specs.declared.reader.Ends.{Ends}
 use Rattle.walk.specs.declared.reader.Walk.{Walk}
-
--- a walk that begins at a half, and ends there
-abbrev pub fresh : ℕ → Walk
-fresh h = record { current = h; last = h; finished = false }
 
 -- a walk with nothing to hand out
 abbrev pub done : Walk
-done = record { current = 0; last = 0; finished = true }
+done = record { left = None }
 
--- it has ended, or the map, with H halves, lacks one of its own
-abbrev pub idle_at : ℕ → Walk → Bool
-idle_at H w = w.finished || nat_le H w.current || nat_le H w.last
+-- a walk from one half around to another, or to itself
+abbrev pub around : ℕ → ℕ → Walk
+around a b = record { left = Some (record { current = a; last = b }) }
+
+-- a walk that begins at a half, and ends there
+abbrev pub fresh : ℕ → Walk
+fresh h = around h h
+
+-- what is left from one half up to another: nothing where they have met
+abbrev pub between : ℕ → ℕ → Walk
+between a b = cond (a == b) done (around a b)
+
+-- the ends, if the map, with H halves, has both
+abbrev pub both_in : ℕ → Option Ends → Option Ends
+both_in H None = None
+both_in H (Some p) = cond (nat_lt p.current H && nat_lt p.last H) (Some p) None
+
+-- the ends, if something is left and the map has both
+abbrev pub ready : ℕ → Walk → Option Ends
+ready H w = both_in H w.left
+
+-- the walk as it was, if its ends are not ready, else as it becomes
+abbrev pub moved : Walk → (Ends → Walk) → Option Ends → Walk
+moved w to None = w
+moved w to (Some p) = to p
 
 -- H: the number of halves
 module _ (step back : ℕ → ℕ) (H : ℕ) where
-  abbrev pub idle : Walk → Bool
-  idle w = idle_at H w
-
   -- from the front: the half in front is handed out
   abbrev pub front_answer : Walk → Option ℕ
-  front_answer w = cond (idle w) None (Some w.current)
+  front_answer w = option_map (λ p. p.current) (ready H w)
 
   abbrev pub front_after : Walk → Walk
-  front_after w = cond (idle w) w (record { current = step w.current; last = w.last; finished = (step w.current == w.last) })
+  front_after w = moved w (λ p. between (step p.current) p.last) (ready H w)
 
   -- from the back: the half before the last one is handed out
   abbrev pub back_answer : Walk → Option ℕ
-  back_answer w = cond (idle w) None (Some (back w.last))
+  back_answer w = option_map (λ p. back p.last) (ready H w)
 
   abbrev pub back_after : Walk → Walk
-  back_after w = cond (idle w) w (record { current = w.current; last = back w.last; finished = (back w.last == w.current) })
+  back_after w = moved w (λ p. between p.current (back p.last)) (ready H w)
 
   -- what steps from the front (true) and from the back (false) hand out, in any mixture
   abbrev pub played : List Bool → Walk → List (Option ℕ)

@@ -11,4 +11,4 @@ pub use handles::{from, is_outer_edge, opposite_vertex, to};
 pub use reader::Walk;
 pub use steps::{Hull, NextBackFn, Rotation};
 pub use theorems::{along_hull_stands, around_entry_stands};
-pub use walking::{NoEntry, walk_entry, walk_hull};
+pub use walking::{walk_entry, walk_hull};

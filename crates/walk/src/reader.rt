@@ -1,9 +1,14 @@
 //! The reader of a walk: plain numbers, lent the map at each step.
 
-/// The half in front, the half behind the last one, and whether they have met.
-#[derive(Clone, Copy)]
-pub struct Walk {
+/// The half in front, and the half behind the last one.
+#[derive(Clone, Copy, PartialEq, Eq, Debug)]
+pub(crate) struct Ends {
     pub(crate) current: u32,
     pub(crate) last: u32,
-    pub(crate) finished: bool,
+}
+
+/// The ends of what is left of a walk; none once they have met.
+#[derive(Clone, Copy, PartialEq, Eq, Debug)]
+pub struct Walk {
+    pub(crate) left: Option<Ends>,
 }

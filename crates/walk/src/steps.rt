@@ -1,32 +1,13 @@
 //! Steps from half to half: each is undone by another.
 ghost use Rattle.std.specs.Prelude.{◌≡◌, ℕ, ◌<◌};
-ghost use Rattle.links.specs.Kept.{map_links};
-ghost use Rattle.links.specs.Links.{Links, ccw, cw, halves, rev as other};
+ghost use Rattle.links.specs.Links.{Links, ccw, cw, halves};
 ghost use Rattle.links.specs.Rules.{Sound};
-ghost use Rattle.walk.specs.Undone.{cw_ccw, ccw_cw};
+ghost use Rattle.preset_map.specs.MapLinks.{links_of};
+ghost use Rattle.planar.proofs.Rings.{cw_ccw, ccw_cw};
+ghost use Rattle.planar.proofs.Views.{ranges_of, weave_of};
 
-use preset_map::Map;
-
-/// The other half of the same edge.
-pub(crate) fn rev(h: u32) -> u32
-    ensures { result ≡ other h }
-{
-    if h % 2 == 0 { h + 1 } else { h - 1 }
-}
-
-/// The `next` of a half.
-fn next_of(map: &Map<'_>, h: u32) -> u32
-    ensures { result ≡ (map_links map.now.words.now map.now.shape).next h }
-{
-    map.half_number(0, h)
-}
-
-/// The `prev` of a half.
-pub(crate) fn prev_of(map: &Map<'_>, h: u32) -> u32
-    ensures { result ≡ (map_links map.now.words.now map.now.shape).prev h }
-{
-    map.half_number(1, h)
-}
+use links::rev;
+use preset_map::{Map, Records};
 
 /// A rearrangement of a map's halves: `next` and `next_back` undo each other.
 pub trait NextBackFn {
@@ -35,10 +16,10 @@ pub trait NextBackFn {
     ghost back: { Links → ℕ → ℕ };
 
     fn next(map: &Map<'_>, h: u32) -> u32
-        ensures { result ≡ step (map_links map.now.words.now map.now.shape) h };
+        ensures { result ≡ step (links_of map.now) h };
 
     fn next_back(map: &Map<'_>, h: u32) -> u32
-        ensures { result ≡ back (map_links map.now.words.now map.now.shape) h };
+        ensures { result ≡ back (links_of map.now) h };
 
     ghost undone: { (m : Links) (h : ℕ) → Sound m → h < halves m → back m (step m h) ≡ h };
 
@@ -46,28 +27,28 @@ pub trait NextBackFn {
 }
 
 /// Counterclockwise about an entry.
-pub struct Rotation {}
+pub struct Rotation;
 
 impl NextBackFn for Rotation {
     ghost step = { ccw };
 
     ghost back = { cw };
 
-    ghost undone = { λ m h s l. cw_ccw m s h l };
+    ghost undone = { λ m h s l. cw_ccw m (ranges_of m s) (weave_of m s) h l };
 
-    ghost redone = { λ m h s l. ccw_cw m s h l };
+    ghost redone = { λ m h s l. ccw_cw m (ranges_of m s) (weave_of m s) h l };
 
     fn next(map: &Map<'_>, h: u32) -> u32 {
-        rev(prev_of(map, h))
+        rev(map.prev(h))
     }
 
     fn next_back(map: &Map<'_>, h: u32) -> u32 {
-        next_of(map, rev(h))
+        map.next(rev(h))
     }
 }
 
 /// Along the outer face.
-pub struct Hull {}
+pub struct Hull;
 
 impl NextBackFn for Hull {
     ghost step = { λ m. m.next };
@@ -79,38 +60,10 @@ impl NextBackFn for Hull {
     ghost redone = { λ m h s l. (s.undone h l).1 };
 
     fn next(map: &Map<'_>, h: u32) -> u32 {
-        next_of(map, h)
+        map.next(h)
     }
 
     fn next_back(map: &Map<'_>, h: u32) -> u32 {
-        prev_of(map, h)
+        map.prev(h)
     }
-}
-
-/// The `out_edge` of an entry.
-pub(crate) fn out_of(map: &Map<'_>, v: u32) -> u32
-    ensures { result ≡ (map_links map.now.words.now map.now.shape).out v }
-{
-    map.entry_number(2, v)
-}
-
-/// The `adjacent_edge` of a face.
-pub(crate) fn adjacent_of(map: &Map<'_>, k: u32) -> u32
-    ensures { result ≡ (map_links map.now.words.now map.now.shape).adj k }
-{
-    map.adjacent_edge(k)
-}
-
-/// The face of a half.
-pub(crate) fn face_of(map: &Map<'_>, h: u32) -> u32
-    ensures { result ≡ (map_links map.now.words.now map.now.shape).face h }
-{
-    map.half_number(2, h)
-}
-
-/// The origin of a half.
-pub(crate) fn origin_of(map: &Map<'_>, h: u32) -> u32
-    ensures { result ≡ (map_links map.now.words.now map.now.shape).origin h }
-{
-    map.half_number(3, h)
 }

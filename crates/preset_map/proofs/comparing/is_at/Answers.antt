@@ -1,0 +1,10 @@
+use Rattle.std.proofs.Common.{rules}
+use Rattle.preset_map.proofs.Agreement.{spot_read}
+use Rattle.preset_map.proofs.comparing.is_at.Goals as goal
+
+pub returns : goal.returns
+returns g c =
+    let x = c.x.ensures.place c.requires.counted in
+    let y = c.y.ensures.place c.requires.counted in
+    let h = c.is_ok_and.ensures in
+    rw (spot_read g.E.Scalar.GridScalar.reading g.E.HasPosition.across g.E.HasPosition.along c.args.shelf.now c.args.v c.index-shelf-v.result c.requires.within c.index-shelf-v.is c.place.ensures) (rw (← x, ← y) (search rules))
