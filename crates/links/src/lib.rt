@@ -15,7 +15,6 @@ mod tables;
 mod theorems;
 
 pub use checking::check;
-pub use clause::rev;
 pub use fault::{CheckFault, FaultNumbers, Site};
 pub use half::rev;
 pub use settle::settle_tables;

@@ -9,7 +9,7 @@ use crate::draft::Draft;
 use crate::map::Map;
 use crate::refused::Refused;
 use entry::HasPosition;
-use links::{CheckFault, Shape, check, settle_tables};
+use links::{CheckFault, check, settle_tables};
 
 impl<'a> Draft<'a> {
     /// Judges the draft with a shelf: `Ok` exactly if they are sound, else the first clause that fails.
@@ -30,15 +30,8 @@ impl<'a> Draft<'a> {
         match settle_tables(words, shape, shelf, count) {
             Ok(()) => Ok(Map { words, shape }),
             Err(fault) => {
-                let map = Map {
-                    words,
-                    shape: Shape {
-                        n: 0,
-                        e: 0,
-                        f: 1,
-                        ..shape
-                    },
-                };
+                let shape = shape.emptied();
+                let map = Map { words, shape };
                 Err(Refused { fault, map })
             }
         }
