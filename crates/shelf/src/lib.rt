@@ -1,4 +1,4 @@
-//! A shelf: a lent slice of plain copied entries of any one kind, and a count beside it.
+//! A shelf: a lent slice of plain copied entries of any one kind, and a count beside it. Both are lent to each call, so they are two parameters.
 #![tactic(auto)]
 
 ghost use Rattle.std.specs.Prelude.{◌≡◌, ℕ, ◌<◌, ◌≤◌, true, false, length, if◌then◌else◌, MatchOption, nat_lt, slice_index_or, slice_set};
