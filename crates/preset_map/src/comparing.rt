@@ -9,6 +9,15 @@ use crate::agreeing::Differs;
 use crate::map::Map;
 use crate::reading::Records;
 use entry::{HasPosition, place};
+use plane::Place;
+
+/// The place of entry v of a map.
+fn place_of(map: &Map<'_>, v: u32) -> Place
+    requires { v < map.now.shape.n }
+    ensures { (result.x ≡ (links_of map.now).x v) × (result.y ≡ (links_of map.now).y v) }
+{
+    Place::new(map.x(v) as u16, map.y(v) as u16).unwrap()
+}
 
 /// Whether entry v of a shelf is at the place of the map's.
 fn is_at<E: HasPosition>(map: &Map<'_>, shelf: &[E], v: u32) -> bool
@@ -16,8 +25,8 @@ fn is_at<E: HasPosition>(map: &Map<'_>, shelf: &[E], v: u32) -> bool
     requires within { v < length shelf.now }
     ensures { result ≡ is_same_spot (spot_at E.Scalar.reading E.across E.along shelf.now v) ((links_of map.now).x v) ((links_of map.now).y v) }
 {
-    let there = (map.x(v), map.y(v));
-    place(&shelf[v as usize]).is_ok_and(|spot| (spot.x() as u32, spot.y() as u32) == there)
+    let there = place_of(map, v);
+    place(&shelf[v as usize]).is_ok_and(|spot| spot == there)
 }
 
 /// The lowest entry whose place differs or is missing.

@@ -13,8 +13,10 @@ use links::{Shape, look};
 pub trait Records {
     ghost shape: { Self → Shape };
 
+    // The number at a place of the memory, if it belongs to its table; else none.
     ghost number: { Self → Bool → ℕ → ℕ };
 
+    // The links that the records hold.
     ghost links: { Self → Links };
 
     /// The counts and the lengths of the tables.
@@ -25,6 +27,7 @@ pub trait Records {
     fn words(&self) -> &[u32]
         ensures { (in_table : Bool) (at : ℕ) → looked result.now in_table at ≡ number self.now in_table at };
 
+    // What is read of a record are its links.
     ghost reads: { (t : Self) → Reads (shape t) (number t) (links t) };
 
     /// A number of an entry's record: x, y and `out_edge` are 0, 1 and 2.
