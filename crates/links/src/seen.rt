@@ -1,4 +1,4 @@
-//! Tables beside the entries whose places they link, and the clauses on places.
+//! Tables beside the entries whose places they link, and the clauses on places. What looks at every entry is not inlined: its inner loop then keeps its numbers in registers.
 ghost use Rattle.std.specs.Prelude.{◌≡◌, length, None};
 ghost use Rattle.links.specs.Shelf.{spot_at};
 ghost use Rattle.links.specs.Verdict.{rule2};
@@ -109,6 +109,7 @@ impl<'a, E: HasPosition> Seen<'a, E> {
     }
 
     /// The lowest edge after k that shares both ends with it.
+    #[inline(never)]
     pub fn first_twin(&self, k: u32) -> Option<u32>
         ensures { result ≡ failing self.now.tables.shape.e (single (seen_in E.Scalar.reading E.across E.along self.now.tables self.now.entries.now) k) }
     {
@@ -117,6 +118,7 @@ impl<'a, E: HasPosition> Seen<'a, E> {
     }
 
     /// The lowest entry that lies on an edge's segment and is no end of it.
+    #[inline(never)]
     pub fn first_on(&self, k: u32) -> Option<u32>
         ensures { result ≡ failing self.now.tables.shape.n (clear (seen_in E.Scalar.reading E.across E.along self.now.tables self.now.entries.now) k) }
     {
@@ -128,6 +130,7 @@ impl<'a, E: HasPosition> Seen<'a, E> {
     }
 
     /// The lowest entry strictly left of a half, if that is in face 0.
+    #[inline(never)]
     pub fn first_left(&self, h: u32) -> Option<u32>
         ensures { result ≡ failing self.now.tables.shape.n (hulled (seen_in E.Scalar.reading E.across E.along self.now.tables self.now.entries.now) h) }
     {
@@ -141,6 +144,7 @@ impl<'a, E: HasPosition> Seen<'a, E> {
     }
 
     /// The lowest entry strictly inside the circle of a face, if that is an inner one.
+    #[inline(never)]
     pub fn first_inside(&self, k: u32) -> Option<u32>
         ensures { result ≡ failing self.now.tables.shape.n (empty (seen_in E.Scalar.reading E.across E.along self.now.tables self.now.entries.now) k) }
     {
