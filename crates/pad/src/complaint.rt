@@ -3,6 +3,10 @@ use entry::EntryFault;
 use std::alloc::{AllocError, AllocFailed};
 use std::{fmt, io};
 
+/// A word that stands for nothing of the kind that is read.
+#[derive(Clone, Copy)]
+pub struct Misspelled;
+
 /// What is wrong with a line.
 #[derive(Clone, Copy)]
 pub enum Complaint<'a> {

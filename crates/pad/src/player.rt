@@ -1,317 +1,230 @@
 // Plays a script: a shelf of one kind of entry at a time, with a draft or a map beside it.
-ghost use Rattle.std.specs.Prelude.{◌≤◌, MatchResult};
-ghost use Rattle.pad.specs.Turns.{bytes, Left};
+ghost use Rattle.std.specs.Prelude.{◌≤◌, ◌<◌, IfOk, MatchResult};
+ghost use Rattle.pad.specs.Turns.{bytes, Left, to_play};
 
+use crate::bench::Bench;
+use crate::command::{Command, OnDraft, OnMap};
 use crate::complaint::{Complaint, Trouble};
 use crate::kind::{Kind, Written};
-use crate::script::{Script, Words};
-use crate::shelf_commands::play_shelf;
-use crate::tables::{Request, read_request, show, tell_check, tell_settle, write_record};
-use crate::walks::play_walk;
+use crate::script::{Script, Words, read_line};
+use crate::shown::{Counts, Outcome, Settled};
+use crate::tables::{Request, read_request, show, tell_check, write_record};
+use crate::turn::Start;
+use crate::walks::{tell_entry, tell_hull};
 use entry::{Point2, Preset};
-use links::{NONE, Shape};
+use links::NONE;
 use preset_map::{Draft, Map};
-use std::io;
-use std::str::from_utf8;
+use std::{io, mem};
 
-/// What a line asks of those who play it.
-#[derive(Clone, Copy)]
-pub enum Turn {
-    /// Nothing more.
-    Stay,
-    /// To start afresh with a kind of entry.
-    Kind(Kind),
-    /// To start a draft.
-    Draft(Request),
-    /// To settle the draft.
-    Settle,
-    /// To reopen the map.
-    Reopen,
+/// What lies beside the shelf.
+#[derive(Drop)]
+enum Beside<'m> {
+    Nothing,
+    Draft(Draft<'m>),
+    Map(Map<'m>),
 }
 
-/// The words of a line, or what is wrong with it as a text.
-fn words_of(line: &[u8]) -> Result<Words<'_>, Complaint<'_>> {
-    match from_utf8(line) {
-        Ok(text) => Ok(Words::new(text)),
-        Err(_) => Err(Complaint::NoText),
-    }
+/// A script that is played over a shelf of one kind.
+#[derive(Drop)]
+struct Player<'r, 't, E: Written> {
+    script: Script<'t>,
+    bench: Bench<'r, E>,
 }
 
-/// Plays a command that needs neither a draft nor a map.
-fn play_command<'a, E: Written>(
-    rt: &HostRuntime,
-    command: &'a str,
+/// Plays a command on a draft.
+fn play_on_draft<'a, E: Written>(
+    bench: &Bench<'_, E>,
+    command: OnDraft,
     words: &mut Words<'a>,
-    shelf: &mut Vec<E>,
-    count: &mut Option<usize>,
-) -> Result<Turn, Trouble<'a>> {
+    beside: &mut Beside<'_>,
+) -> Result<(), Trouble<'a>> {
+    let Beside::Draft(draft) = beside else {
+        return Err(Trouble::Line(Complaint::NoDraft));
+    };
     match command {
-        "kind" => {
-            let kind = Kind::read(words)?;
+        OnDraft::Write(record) => write_record(bench.rt(), record, words, draft)?,
+        OnDraft::Check => {
             words.end()?;
-            return Ok(Turn::Kind(kind));
+            tell_check(bench.rt(), draft.check(bench.entries(), bench.counted()))?;
         }
-        "draft" => return Ok(Turn::Draft(read_request(words)?)),
-        "out" | "half" | "face" | "check" | "settle" => return Err(Trouble::Line(
-            Complaint::NoDraft,
-        )),
-        "reopen" | "show" | "walk" | "hull" => return Err(Trouble::Line(Complaint::NoMap)),
-        _ => {}
+        OnDraft::Settle => {
+            words.end()?;
+            settle(bench, beside)?;
+        }
     }
-    if play_shelf(rt, command, words, shelf, count)? {
-        return Ok(Turn::Stay);
-    }
-    Err(Trouble::Line(Complaint::Unknown(command)))
+    Ok(())
 }
 
-/// Plays a line where there is no draft.
-fn play_line<'a, E: Written>(
+/// Plays a command on a map.
+fn play_on_map<'a>(
     rt: &HostRuntime,
-    line: &'a [u8],
-    shelf: &mut Vec<E>,
-    count: &mut Option<usize>,
-) -> Result<Turn, Trouble<'a>> {
-    let mut words = words_of(line)?;
-    let Some(command) = words.next_word() else {
-        return Ok(Turn::Stay);
+    command: OnMap,
+    words: &mut Words<'a>,
+    beside: &mut Beside<'_>,
+) -> Result<(), Trouble<'a>> {
+    let Beside::Map(map) = beside else {
+        return Err(Trouble::Line(Complaint::NoMap));
     };
-    play_command(rt, command, &mut words, shelf, count)
+    match command {
+        OnMap::Walk => tell_entry(rt, words, map)?,
+        OnMap::Hull => tell_hull(rt, words, map)?,
+        OnMap::Reopen => {
+            words.end()?;
+            reopen(rt, beside)?;
+        }
+    }
+    Ok(())
 }
 
-/// Plays a line beside a draft.
-fn play_draft_line<'a, E: Written>(
+/// Shows the draft or the map.
+fn play_show<'a>(
     rt: &HostRuntime,
-    line: &'a [u8],
-    shelf: &mut Vec<E>,
-    count: &mut Option<usize>,
-    draft: &mut Draft<'_>,
-) -> Result<Turn, Trouble<'a>> {
-    let mut words = words_of(line)?;
-    let Some(command) = words.next_word() else {
-        return Ok(Turn::Stay);
-    };
-    if write_record(rt, command, &mut words, draft)? {
-        return Ok(Turn::Stay);
-    }
-    match command {
-        "check" => {
-            words.end()?;
-            let counted = count.unwrap_or(shelf.len());
-            tell_check(rt, draft.check(shelf.as_slice(), counted))?;
-            Ok(Turn::Stay)
-        }
-        "settle" => {
-            words.end()?;
-            Ok(Turn::Settle)
-        }
-        "show" => {
+    words: &mut Words<'a>,
+    beside: &Beside<'_>,
+) -> Result<(), Trouble<'a>> {
+    match beside {
+        Beside::Nothing => return Err(Trouble::Line(Complaint::NoMap)),
+        Beside::Draft(draft) => {
             words.end()?;
             show(rt, draft)?;
-            Ok(Turn::Stay)
         }
-        _ => play_command(rt, command, &mut words, shelf, count),
-    }
-}
-
-/// Plays a line beside a map.
-fn play_map_line<'a, E: Written>(
-    rt: &HostRuntime,
-    line: &'a [u8],
-    shelf: &mut Vec<E>,
-    count: &mut Option<usize>,
-    map: &Map<'_>,
-) -> Result<Turn, Trouble<'a>> {
-    let mut words = words_of(line)?;
-    let Some(command) = words.next_word() else {
-        return Ok(Turn::Stay);
-    };
-    if play_walk(rt, command, &mut words, map)? {
-        return Ok(Turn::Stay);
-    }
-    match command {
-        "reopen" => {
-            words.end()?;
-            Ok(Turn::Reopen)
-        }
-        "show" => {
+        Beside::Map(map) => {
             words.end()?;
             show(rt, map)?;
-            Ok(Turn::Stay)
         }
-        _ => play_command(rt, command, &mut words, shelf, count),
     }
+    Ok(())
+}
+
+/// Settles a draft and tells the outcome; there is a map after either.
+fn settle<E: Written>(bench: &Bench<'_, E>, beside: &mut Beside<'_>) -> io::Result<()> {
+    if let Beside::Draft(draft) = mem::replace(beside, Beside::Nothing) {
+        let mut verdict = Ok(());
+        let map = draft.settle(bench.entries(), bench.counted(), &mut verdict);
+        let accepted = Settled(map.shape());
+        *beside = Beside::Map(map);
+        println!(bench.rt(); "settle: {}", Outcome(verdict.map(|()| accepted)))?;
+    }
+    Ok(())
+}
+
+/// Makes a map a draft again.
+fn reopen(rt: &HostRuntime, beside: &mut Beside<'_>) -> io::Result<()> {
+    if let Beside::Map(map) = mem::replace(beside, Beside::Nothing) {
+        *beside = Beside::Draft(map.reopen());
+        println!(rt; "reopen: a draft again")?;
+    }
+    Ok(())
+}
+
+/// Plays a line; tells whether it is a new start.
+fn play_line<'a, E: Written>(
+    bench: &mut Bench<'_, E>,
+    line: &'a [u8],
+    beside: &mut Beside<'_>,
+) -> Result<Option<Start>, Trouble<'a>> {
+    let Some((command, mut words)) = read_line(line)? else {
+        return Ok(None);
+    };
+    let words = &mut words;
+    match command {
+        Command::Kind => {
+            let kind = words.read("kind")?;
+            words.end()?;
+            return Ok(Some(Start::Kind(kind)));
+        }
+        Command::Draft => return Ok(Some(Start::Draft(read_request(words)?))),
+        Command::OnShelf(command) => bench.play(command, words)?,
+        Command::OnDraft(command) => play_on_draft(bench, command, words, beside)?,
+        Command::OnMap(command) => play_on_map(bench.rt(), command, words, beside)?,
+        Command::Show => play_show(bench.rt(), words, beside)?,
+    }
+    Ok(None)
 }
 
 /// Tells what is wrong with a line; the script goes on.
-fn told(rt: &HostRuntime, number: u64, played: Result<Turn, Trouble<'_>>) -> io::Result<Turn> {
+fn told(
+    rt: &HostRuntime,
+    number: u64,
+    played: Result<Option<Start>, Trouble<'_>>,
+) -> io::Result<Option<Start>> {
     match played {
-        Ok(turn) => Ok(turn),
+        Ok(start) => Ok(start),
         Err(Trouble::Line(complaint)) => {
             println!(rt; "line {number}: {complaint}")?;
-            Ok(Turn::Stay)
+            Ok(None)
         }
         Err(Trouble::Outside(error)) => Err(error),
     }
 }
 
-/// Tells that the map is a draft again.
-fn reopened(rt: &HostRuntime) -> io::Result<Turn> {
-    println!(rt; "reopen: a draft again")?;
-    Ok(Turn::Stay)
-}
-
-/// Plays lines beside a map, up to its reopening, a new start or the end.
-fn play_map<'m, E: Written>(
-    rt: &HostRuntime,
-    script: &mut Script,
-    shelf: &mut Vec<E>,
-    count: &mut Option<usize>,
-    map: Map<'m>,
-    left: &mut io::Result<Turn>,
-) -> Draft<'m>
-    ensures { bytes script.new ≤ bytes script.old }
-{
-    *left = Ok(Turn::Stay);
-    while let Some(line) = script.next_line() {
-        let number = script.line();
-        match told(rt, number, play_map_line(rt, line, shelf, count, &map)) {
-            Ok(Turn::Stay) | Ok(Turn::Settle) => {}
-            Ok(Turn::Reopen) => {
-                *left = reopened(rt);
-                break;
-            }
-            other => {
-                *left = other;
-                break;
+impl<'r, 't, E: Written> Player<'r, 't, E> {
+    /// Plays lines over the shelf and what lies beside it, up to a new start or the end.
+    fn play_lines(&mut self, beside: &mut Beside<'_>) -> io::Result<Option<Start>>
+        ensures { MatchResult result (λ start. Left start self.old.script self.new.script) (λ _. bytes self.new.script ≤ bytes self.old.script) }
+    {
+        while let Some(line) = self.script.next_line() {
+            let played = play_line(&mut self.bench, line, beside);
+            if let Some(start) = told(self.bench.rt(), self.script.line(), played)? {
+                return Ok(Some(start));
             }
         }
+        Ok(None)
     }
-    map.reopen()
-}
 
-/// Plays lines beside a draft, and the map that it is settled into, up to a new start or the end.
-fn play_draft<E: Written>(
-    rt: &HostRuntime,
-    script: &mut Script,
-    shelf: &mut Vec<E>,
-    count: &mut Option<usize>,
-    memory: &mut [u32],
-    shape: Shape,
-) -> io::Result<Turn>
-    ensures { MatchResult result (λ turn. Left turn script.old script.new) (λ _. bytes script.new ≤ bytes script.old) }
-{
-    let mut draft = Draft::new(memory, shape);
-    while let Some(line) = script.next_line() {
-        let number = script.line();
-        match told(
-            rt,
-            number,
-            play_draft_line(rt, line, shelf, count, &mut draft),
-        )? {
-            Turn::Stay | Turn::Reopen => {}
-            Turn::Settle => {
-                let counted = count.unwrap_or(shelf.len());
-                let mut verdict = Ok(());
-                let map = draft.settle(shelf.as_slice(), counted, &mut verdict);
-                tell_settle(rt, verdict, map.shape())?;
-                let mut left = Ok(Turn::Stay);
-                draft = play_map(rt, script, shelf, count, map, &mut left);
-                match left? {
-                    Turn::Stay | Turn::Reopen | Turn::Settle => {}
-                    turn => return Ok(turn),
-                }
-            }
-            turn => return Ok(turn),
+    /// Plays a draft over new memory.
+    fn play_draft(&mut self, request: Request) -> io::Result<Option<Start>>
+        ensures { MatchResult result (λ start. Left start self.old.script self.new.script) (λ _. bytes self.new.script ≤ bytes self.old.script) }
+    {
+        let rt = self.bench.rt();
+        println!(rt; "draft: {}", Counts(request.shape))?;
+        let mut words = vec![in rt.alloc(); NONE; request.len]?;
+        let mut beside = Beside::Draft(Draft::new(words.as_mut_slice(), request.shape));
+        self.play_lines(&mut beside)
+    }
+
+    /// Plays lines with nothing beside the shelf.
+    fn play_bare(&mut self) -> io::Result<Option<Start>>
+        ensures { MatchResult result (λ start. Left start self.old.script self.new.script) (λ _. bytes self.new.script ≤ bytes self.old.script) }
+    {
+        let mut beside = Beside::Nothing;
+        self.play_lines(&mut beside)
+    }
+
+    /// Plays a new shelf, and drafts one after another, up to a line that turns to a kind or to the end.
+    fn play(mut self) -> io::Result<Option<(Kind, Script<'t>)>>
+        ensures { IfOk result (λ next. to_play next ≤ bytes self.entry.script) }
+    {
+        println!(self.bench.rt(); "kind {}: the shelf is empty", E::kind())?;
+        let mut start = self.play_bare()?;
+        while let Some(Start::Draft(request)) = start {
+            start = self.play_draft(request)?;
         }
-    }
-    Ok(Turn::Stay)
-}
-
-/// Plays lines without a draft, up to a new start or the end.
-fn play_bare<E: Written>(
-    rt: &HostRuntime,
-    script: &mut Script,
-    shelf: &mut Vec<E>,
-    count: &mut Option<usize>,
-) -> io::Result<Turn>
-    ensures { MatchResult result (λ turn. Left turn script.old script.new) (λ _. bytes script.new ≤ bytes script.old) }
-{
-    while let Some(line) = script.next_line() {
-        let number = script.line();
-        match told(rt, number, play_line(rt, line, shelf, count))? {
-            Turn::Stay | Turn::Settle | Turn::Reopen => {}
-            turn => return Ok(turn),
-        }
-    }
-    Ok(Turn::Stay)
-}
-
-/// Plays a draft over new memory.
-fn play_tables<E: Written>(
-    rt: &HostRuntime,
-    script: &mut Script,
-    shelf: &mut Vec<E>,
-    count: &mut Option<usize>,
-    request: Request,
-) -> io::Result<Turn>
-    ensures { MatchResult result (λ turn. Left turn script.old script.new) (λ _. bytes script.new ≤ bytes script.old) }
-{
-    let n = request.shape.n;
-    let e = request.shape.e;
-    let f = request.shape.f;
-    println!(rt; "draft: n {n} e {e} f {f}")?;
-    let mut words = vec![in rt.alloc(); NONE; request.len]?;
-    play_draft(
-        rt,
-        script,
-        shelf,
-        count,
-        words.as_mut_slice(),
-        request.shape,
-    )
-}
-
-/// Plays drafts one after another, up to a line that turns to a kind or to the end.
-fn play_drafts<E: Written>(
-    rt: &HostRuntime,
-    script: &mut Script,
-    shelf: &mut Vec<E>,
-    count: &mut Option<usize>,
-    request: Request,
-) -> io::Result<Turn>
-    ensures { bytes script.new ≤ bytes script.old }
-{
-    let mut request = request;
-    loop {
-        match play_tables(rt, script, shelf, count, request)? {
-            Turn::Draft(next) => request = next,
-            turn => return Ok(turn),
+        match start {
+            Some(Start::Kind(kind)) => Ok(Some((kind, self.script))),
+            _ => Ok(None),
         }
     }
 }
 
-/// Plays lines over a new shelf of one kind, up to a line that turns to a kind or to the end.
-fn play_kind<E: Written>(rt: &HostRuntime, script: &mut Script) -> io::Result<Turn>
-    ensures { MatchResult result (λ turn. Left turn script.old script.new) (λ _. bytes script.new ≤ bytes script.old) }
+/// Plays over a new shelf of one kind.
+fn play_kind<'t, E: Written>(
+    rt: &HostRuntime,
+    script: Script<'t>,
+) -> io::Result<Option<(Kind, Script<'t>)>>
+    ensures { IfOk result (λ next. to_play next ≤ bytes script.entry) }
 {
-    let kind = E::kind();
-    println!(rt; "kind {kind}: the shelf is empty")?;
-    let mut shelf: Vec<E> = Vec::new(rt.alloc());
-    let mut count = None;
-    match play_bare(rt, script, &mut shelf, &mut count)? {
-        Turn::Draft(request) => play_drafts(rt, script, &mut shelf, &mut count, request),
-        turn => Ok(turn),
-    }
+    let bench: Bench<'_, E> = Bench::new(rt);
+    Player { script, bench }.play()
 }
 
 /// Plays a whole script, from a shelf of points on.
 pub fn play(rt: &HostRuntime, text: &[u8]) -> io::Result<()> {
-    let mut script = Script::new(text);
-    let mut turn = Turn::Kind(Kind::Point);
-    while let Turn::Kind(kind) = turn {
-        turn = match kind {
-            Kind::Point => play_kind::<Point2>(rt, &mut script)?,
-            Kind::Preset => play_kind::<Preset>(rt, &mut script)?,
+    let mut next = Some((Kind::Point, Script::new(text)));
+    while let Some((kind, script)) = next {
+        next = match kind {
+            Kind::Point => play_kind::<Point2>(rt, script)?,
+            Kind::Preset => play_kind::<Preset>(rt, script)?,
         };
     }
     Ok(())

@@ -1,8 +1,9 @@
 // A script: its lines, and the words of a line.
 ghost use Rattle.std.specs.Prelude.{◌≡◌, ◌<◌, length, MatchOption};
 
+use crate::command::Command;
 use crate::complaint::Complaint;
-use std::str::{FromStr, SplitWhitespace};
+use std::str::{FromStr, SplitWhitespace, from_utf8};
 
 /// What is still to be read of a script, and the number of the line that was read last.
 #[derive(Drop)]
@@ -39,14 +40,16 @@ impl<'a> Script<'a> {
             return None;
         }
         self.line = self.line.saturating_add(1);
-        for (i, byte) in rest.iter().enumerate() {
-            if *byte == b'\n' {
-                self.rest = &rest[i + 1..];
-                return Some(&rest[0..i]);
+        match rest.iter().position(|byte| *byte == b'\n') {
+            Some(end) => {
+                self.rest = &rest[end + 1..];
+                Some(&rest[..end])
+            }
+            None => {
+                self.rest = &rest[rest.len()..];
+                Some(rest)
             }
         }
-        self.rest = &rest[rest.len()..];
-        Some(rest)
     }
 }
 
@@ -54,6 +57,14 @@ impl<'a> Script<'a> {
 #[derive(Drop)]
 pub struct Words<'a> {
     rest: SplitWhitespace<'a>,
+}
+
+/// The value that a word stands for.
+fn read<'a, T: FromStr>(word: &'a str, what: &'static str) -> Result<T, Complaint<'a>>
+where
+    T::Err: Drop,
+{
+    word.parse::<T>().map_err(|_| Complaint::Unread(what, word))
 }
 
 impl<'a> Words<'a> {
@@ -78,15 +89,38 @@ impl<'a> Words<'a> {
         self.next_word().ok_or(Complaint::Missing(what))
     }
 
-    /// The next word, read as a number.
-    pub fn number<T: FromStr>(&mut self, what: &'static str) -> Result<T, Complaint<'a>>
+    /// The value that the next word stands for.
+    pub fn read<T: FromStr>(&mut self, what: &'static str) -> Result<T, Complaint<'a>>
     where
         T::Err: Drop,
     {
-        let word = self.word(what)?;
-        match word.parse::<T>() {
-            Ok(value) => Ok(value),
-            Err(_) => Err(Complaint::Unread(what, word)),
+        read(self.word(what)?, what)
+    }
+
+    /// As many numbers as are asked for.
+    pub fn numbers<const N: usize>(
+        &mut self,
+        what: &'static str,
+    ) -> Result<[usize; N], Complaint<'a>> {
+        let mut numbers = [0; N];
+        for number in numbers.iter_mut() {
+            *number = self.read(what)?;
+        }
+        Ok(numbers)
+    }
+
+    /// The same, with a value for where the line ends before.
+    pub fn read_or<T: FromStr + Drop>(
+        &mut self,
+        what: &'static str,
+        other: T,
+    ) -> Result<T, Complaint<'a>>
+    where
+        T::Err: Drop,
+    {
+        match self.next_word() {
+            Some(word) => read(word, what),
+            None => Ok(other),
         }
     }
 
@@ -97,4 +131,17 @@ impl<'a> Words<'a> {
             None => Ok(()),
         }
     }
+}
+
+/// The command of a line, and the words after it; none where the line has no word.
+pub fn read_line<'a>(line: &'a [u8]) -> Result<Option<(Command, Words<'a>)>, Complaint<'a>> {
+    let text = from_utf8(line).map_err(|_| Complaint::NoText)?;
+    let mut words = Words::new(text);
+    let Some(word) = words.next_word() else {
+        return Ok(None);
+    };
+    let command = word
+        .parse::<Command>()
+        .map_err(|_| Complaint::Unknown(word))?;
+    Ok(Some((command, words)))
 }

@@ -1,0 +1,172 @@
+// The shelf that a script fills, the count that goes with it, and what commands tell of them.
+use crate::command::OnShelf;
+use crate::complaint::{NoSpot, Trouble};
+use crate::kind::Written;
+use crate::script::Words;
+use crate::shown::{Outcome, Spot};
+use entry::place;
+use plane::{Place, contained_in_circumference, incircle, side, side_query};
+use shelf::unnamed;
+use std::{fmt, io};
+
+/// A shelf of one kind of entry, with the count beside it where a script has set one.
+#[derive(Drop)]
+pub struct Bench<'r, E: Written> {
+    rt: &'r HostRuntime,
+    entries: Vec<E>,
+    count: Option<usize>,
+}
+
+/// The place of an entry, and whether it is named.
+#[derive(Clone, Copy)]
+struct Placed {
+    place: Place,
+    is_named: bool,
+}
+
+impl fmt::Display for Placed {
+    fn fmt<W: fmt::Write>(&self, f: &mut fmt::Formatter<W>) -> fmt::Result {
+        let named = if self.is_named { "named" } else { "not named" };
+        write!(f, "place {}, {named}", Spot(self.place))
+    }
+}
+
+/// An entry in a list: its place or why it has none, and what else it has.
+#[derive(Clone, Copy)]
+struct Listed<E>(E);
+
+impl<E: Written> fmt::Display for Listed<E> {
+    fn fmt<W: fmt::Write>(&self, f: &mut fmt::Formatter<W>) -> fmt::Result {
+        match place(&self.0) {
+            Ok(spot) => write!(f, "place {}, ", Spot(spot))?,
+            Err(fault) => write!(f, "no place, {fault}, ")?,
+        }
+        self.0.details(f)
+    }
+}
+
+impl<'r, E: Written> Bench<'r, E> {
+    /// An empty shelf.
+    pub fn new(rt: &'r HostRuntime) -> Bench<'r, E> {
+        Bench {
+            rt,
+            entries: Vec::new(rt.alloc()),
+            count: None,
+        }
+    }
+
+    /// The world outside.
+    pub fn rt(&self) -> &'r HostRuntime {
+        self.rt
+    }
+
+    pub fn entries(&self) -> &[E] {
+        self.entries.as_slice()
+    }
+
+    /// The count that was set, or the number of entries.
+    pub fn counted(&self) -> usize {
+        self.count.unwrap_or(self.entries.len())
+    }
+
+    /// Plays a command on the shelf.
+    pub fn play<'a>(&mut self, command: OnShelf, words: &mut Words<'a>) -> Result<(), Trouble<'a>> {
+        match command {
+            OnShelf::Entry => self.add_entry(words)?,
+            OnShelf::Side => self.tell_side(words)?,
+            OnShelf::Circle => self.tell_circle(words)?,
+            OnShelf::Count => self.set_count(words)?,
+            OnShelf::List => {
+                words.end()?;
+                self.list()?;
+            }
+            OnShelf::Unnamed => {
+                words.end()?;
+                self.tell_unnamed()?;
+            }
+        }
+        Ok(())
+    }
+
+    /// `entry ..`: puts an entry on the shelf, with a place or without one.
+    fn add_entry<'a>(&mut self, words: &mut Words<'a>) -> Result<(), Trouble<'a>> {
+        let entry = E::read(words)?;
+        words.end()?;
+        let number = self.entries.len();
+        self.entries.push(entry)?;
+        let placed = place(&entry).map(|place| Placed {
+            place,
+            is_named: entry.is_named(),
+        });
+        println!(self.rt; "entry {number}: {}", Outcome(placed))?;
+        Ok(())
+    }
+
+    /// The place of the entry of this number.
+    fn spot(&self, number: usize) -> Result<Place, NoSpot> {
+        let entry = self.entries.get(number).ok_or(NoSpot::NoEntry(number))?;
+        place(entry).map_err(|fault| NoSpot::NoPlace(number, fault))
+    }
+
+    /// `side A B Q`: where Q lies, seen along the way from A to B.
+    fn tell_side<'a>(&self, words: &mut Words<'a>) -> Result<(), Trouble<'a>> {
+        let numbers = words.numbers::<3>("entry number")?;
+        words.end()?;
+        let [a, b, q] = numbers.try_map(|number| self.spot(number))?;
+        let info = side_query(a, b, q);
+        let verdict = if info.is_on_line() {
+            "on the line"
+        } else if info.is_on_left_side() {
+            "left"
+        } else {
+            "right"
+        };
+        let [i, j, k] = numbers;
+        println!(self.rt; "side {i} {j} {k}: {}, {verdict}", side(a, b, q))?;
+        Ok(())
+    }
+
+    /// `circle A B C D`: whether D lies inside the circle of A, B, C.
+    fn tell_circle<'a>(&self, words: &mut Words<'a>) -> Result<(), Trouble<'a>> {
+        let numbers = words.numbers::<4>("entry number")?;
+        words.end()?;
+        let [a, b, c, d] = numbers.try_map(|number| self.spot(number))?;
+        let verdict = if contained_in_circumference(a, b, c, d) {
+            "inside"
+        } else {
+            "not inside"
+        };
+        let [i, j, k, l] = numbers;
+        println!(self.rt;
+            "circle {i} {j} {k} {l}: {}, {verdict}",
+            incircle(a, b, c, d)
+        )?;
+        Ok(())
+    }
+
+    /// `list`: every entry on the shelf.
+    fn list(&self) -> io::Result<()> {
+        println!(self.rt; "list: {} of kind {}", self.entries.len(), E::kind())?;
+        for (number, entry) in self.entries.iter().enumerate() {
+            println!(self.rt; "  {number}: {}", Listed(*entry))?;
+        }
+        Ok(())
+    }
+
+    /// `unnamed`: some entry without a name.
+    fn tell_unnamed(&self) -> io::Result<()> {
+        match unnamed(self.entries(), self.counted()) {
+            Some(number) => println!(self.rt; "unnamed: {number}"),
+            None => println!(self.rt; "unnamed: none"),
+        }
+    }
+
+    /// `count C`: the count beside the shelf, for check and settle.
+    fn set_count<'a>(&mut self, words: &mut Words<'a>) -> Result<(), Trouble<'a>> {
+        let given = words.read::<usize>("count")?;
+        words.end()?;
+        self.count = Some(given);
+        println!(self.rt; "count: {given}")?;
+        Ok(())
+    }
+}
