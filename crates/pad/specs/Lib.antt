@@ -1,3 +1,4 @@
 pub mod Commands
 pub mod Kinds
+pub mod Reading
 pub mod Turns

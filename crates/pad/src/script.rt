@@ -1,5 +1,6 @@
 // A script: its lines, and the words of a line.
-ghost use Rattle.std.specs.Prelude.{◌≡◌, ◌<◌, length, MatchOption};
+ghost use Rattle.std.specs.Prelude.{◌≡◌, ◌<◌, length, MatchOption, MatchResult};
+ghost use Rattle.pad.specs.Reading.{EndsLine, IsAtEnd, IsWordsOf, Reads, ReadsAs, ReadsLine, ReadsOr, Takes};
 
 use crate::command::Command;
 use crate::complaint::Complaint;
@@ -63,19 +64,24 @@ pub struct Words<'a> {
 fn read<'a, T: FromStr>(word: &'a str, what: &'static str) -> Result<T, Complaint<'a>>
 where
     T::Err: Drop,
+    ensures { ReadsAs T.from_str_gives word.entry what.entry result }
 {
     word.parse::<T>().map_err(|_| Complaint::Unread(what, word))
 }
 
 impl<'a> Words<'a> {
-    pub fn new(line: &'a str) -> Words<'a> {
+    pub fn new(line: &'a str) -> Words<'a>
+        ensures { IsWordsOf line.now result }
+    {
         Words {
             rest: line.split_whitespace(),
         }
     }
 
     /// The next word, or none at the end of the line or at a comment.
-    pub fn next_word(&mut self) -> Option<&'a str> {
+    pub fn next_word(&mut self) -> Option<&'a str>
+        ensures { MatchOption result (IsAtEnd self.old) (λ w. Takes self.old w self.new) }
+    {
         let word = self.rest.next()?;
         if word.starts_with('#') {
             self.rest = "".split_whitespace();
@@ -85,7 +91,9 @@ impl<'a> Words<'a> {
     }
 
     /// The next word, which stands for `what`.
-    pub fn word(&mut self, what: &'static str) -> Result<&'a str, Complaint<'a>> {
+    pub fn word(&mut self, what: &'static str) -> Result<&'a str, Complaint<'a>>
+        ensures { MatchResult result (λ w. Takes self.old w self.new) (λ c. IsAtEnd self.old × (c ≡ Complaint.Missing what.entry)) }
+    {
         self.next_word().ok_or(Complaint::Missing(what))
     }
 
@@ -93,6 +101,7 @@ impl<'a> Words<'a> {
     pub fn read<T: FromStr>(&mut self, what: &'static str) -> Result<T, Complaint<'a>>
     where
         T::Err: Drop,
+        ensures { Reads T.from_str_gives what.entry self.old result self.new }
     {
         read(self.word(what)?, what)
     }
@@ -117,6 +126,7 @@ impl<'a> Words<'a> {
     ) -> Result<T, Complaint<'a>>
     where
         T::Err: Drop,
+        ensures { ReadsOr T.from_str_gives what.entry other self.old result self.new }
     {
         match self.next_word() {
             Some(word) => read(word, what),
@@ -125,7 +135,9 @@ impl<'a> Words<'a> {
     }
 
     /// Whether the line ends here.
-    pub fn end(&mut self) -> Result<(), Complaint<'a>> {
+    pub fn end(&mut self) -> Result<(), Complaint<'a>>
+        ensures { EndsLine self.old result self.new }
+    {
         match self.next_word() {
             Some(word) => Err(Complaint::Extra(word)),
             None => Ok(()),
@@ -134,7 +146,9 @@ impl<'a> Words<'a> {
 }
 
 /// The command of a line, and the words after it; none where the line has no word.
-pub fn read_line<'a>(line: &'a [u8]) -> Result<Option<(Command, Words<'a>)>, Complaint<'a>> {
+pub fn read_line<'a>(line: &'a [u8]) -> Result<Option<(Command, Words<'a>)>, Complaint<'a>>
+    ensures { ReadsLine line.now result }
+{
     let text = from_utf8(line).map_err(|_| Complaint::NoText)?;
     let mut words = Words::new(text);
     let Some(word) = words.next_word() else {
