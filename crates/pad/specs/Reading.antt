@@ -55,5 +55,5 @@ IsWordsOf text words = text_left words ≡ text
 abbrev pub ReadsLine : List ℕ → Result (Option (Command × Words)) Complaint → Type 0
 ReadsLine line r = MatchResult r
     (λ found. (words : Words) × IsWordsOf line words
-      × MatchOption found (IsAtEnd words) (λ x. (w : Text) × Takes words w x.1 × (w.now ≡ command_word x.0)))
+    × MatchOption found (IsAtEnd words) (λ x. (w : Text) × Takes words w x.1 × (w.now ≡ command_word x.0)))
     (λ c. (c ≡ NoText) ⊎ ((w : Text) × (c ≡ Unknown w) × ((k : Command) → w.now ≢ command_word k)))

@@ -1,7 +1,7 @@
 -- How much of a script is left.
 use Rattle.std.specs.Prelude.{◌≡◌, ℕ, suc, ◌<◌, length, Option, Some, None}
 use Rattle.pad.specs.declared.kind.Kind.{Kind}
-use Rattle.pad.specs.declared.turn.Start.{Start}
+use Rattle.pad.specs.declared.player.Start.{Start}
 use Rattle.pad.specs.declared.script.Script.{Script}
 
 -- the bytes that are still to be read

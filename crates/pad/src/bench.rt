@@ -1,4 +1,7 @@
 // The shelf that a script fills, the count that goes with it, and what commands tell of them.
+ghost use Rattle.std.specs.Prelude.{◌≡◌, ◌≤◌, ◌↔◌, [], ◌∷◌, ◌++◌, length, IsSome, OnOk};
+ghost use Rattle.pad.specs.Counting.{count_or};
+
 use crate::command::OnShelf;
 use crate::complaint::{NoSpot, Trouble};
 use crate::kind::Written;
@@ -47,7 +50,10 @@ impl<E: Written> fmt::Display for Listed<E> {
 
 impl<'r, E: Written> Bench<'r, E> {
     /// An empty shelf.
-    pub fn new(rt: &'r HostRuntime) -> Bench<'r, E> {
+    pub fn new(rt: &'r HostRuntime) -> Bench<'r, E>
+        ensures entries { result.entries.items ≡ [] }
+        ensures count { result.count ≡ None }
+    {
         Bench {
             rt,
             entries: Vec::new(rt.alloc()),
@@ -55,17 +61,16 @@ impl<'r, E: Written> Bench<'r, E> {
         }
     }
 
-    /// The world outside.
-    pub fn rt(&self) -> &'r HostRuntime {
-        self.rt
-    }
-
-    pub fn entries(&self) -> &[E] {
+    pub fn entries(&self) -> &[E]
+        ensures { result.now ≡ self.now.entries.items }
+    {
         self.entries.as_slice()
     }
 
     /// The count that was set, or the number of entries.
-    pub fn counted(&self) -> usize {
+    pub fn counted(&self) -> usize
+        ensures { result ≡ count_or self.now.count (length self.now.entries.items) }
+    {
         self.count.unwrap_or(self.entries.len())
     }
 
@@ -89,7 +94,10 @@ impl<'r, E: Written> Bench<'r, E> {
     }
 
     /// `entry ..`: puts an entry on the shelf, with a place or without one.
-    fn add_entry<'a>(&mut self, words: &mut Words<'a>) -> Result<(), Trouble<'a>> {
+    fn add_entry<'a>(&mut self, words: &mut Words<'a>) -> Result<(), Trouble<'a>>
+        ensures added { OnOk result ((entry : E) × (self.new.entries.items ≡ self.old.entries.items ++ entry ∷ [])) }
+        ensures count { self.new.count ≡ self.old.count }
+    {
         let entry = E::read(words)?;
         words.end()?;
         let number = self.entries.len();
@@ -103,7 +111,9 @@ impl<'r, E: Written> Bench<'r, E> {
     }
 
     /// The place of the entry of this number.
-    fn spot(&self, number: usize) -> Result<Place, NoSpot> {
+    fn spot(&self, number: usize) -> Result<Place, NoSpot>
+        ensures { (result ≡ Err (NoSpot.NoEntry number)) ↔ (length self.now.entries.items ≤ number) }
+    {
         let entry = self.entries.get(number).ok_or(NoSpot::NoEntry(number))?;
         place(entry).map_err(|fault| NoSpot::NoPlace(number, fault))
     }
@@ -146,7 +156,7 @@ impl<'r, E: Written> Bench<'r, E> {
 
     /// `list`: every entry on the shelf.
     fn list(&self) -> io::Result<()> {
-        println!(self.rt; "list: {} of kind {}", self.entries.len(), E::kind())?;
+        println!(self.rt; "list: {} of kind {}", self.entries.len(), E::KIND)?;
         for (number, entry) in self.entries.iter().enumerate() {
             println!(self.rt; "  {number}: {}", Listed(*entry))?;
         }
@@ -162,7 +172,10 @@ impl<'r, E: Written> Bench<'r, E> {
     }
 
     /// `count C`: the count beside the shelf, for check and settle.
-    fn set_count<'a>(&mut self, words: &mut Words<'a>) -> Result<(), Trouble<'a>> {
+    fn set_count<'a>(&mut self, words: &mut Words<'a>) -> Result<(), Trouble<'a>>
+        ensures set { OnOk result (IsSome self.new.count) }
+        ensures entries { self.new.entries ≡ self.old.entries }
+    {
         let given = words.read::<usize>("count")?;
         words.end()?;
         self.count = Some(given);

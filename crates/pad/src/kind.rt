@@ -1,4 +1,7 @@
 // The kinds of entry that a script can put on the shelf: how each is written and shown.
+ghost use Rattle.std.specs.Prelude.{◌≡◌, ◌≢◌, codes, IsErr, MatchOption};
+ghost use Rattle.entry.specs.Naming.{packed_name};
+
 use crate::complaint::{Complaint, Misspelled};
 use crate::script::Words;
 use entry::{Entry, Name, Point2, Preset, Setting, pack_name};
@@ -28,10 +31,24 @@ impl FromStr for Kind {
     }
 }
 
+impl fmt::Display for Kind {
+    ghost use Rattle.std.specs.Prelude.{Some};
+    ghost use Rattle.pad.specs.Kinds.{kind_word};
+
+    ghost output = { λ kind. Some (kind_word kind) };
+
+    fn fmt<W: fmt::Write>(&self, f: &mut fmt::Formatter<W>) -> fmt::Result {
+        match self {
+            Kind::Point => write!(f, "point"),
+            Kind::Preset => write!(f, "preset"),
+        }
+    }
+}
+
 /// An entry that a script can write down.
 pub trait Written: Entry + Copy {
     /// The kind's name.
-    fn kind() -> &'static str;
+    const KIND: Kind;
 
     /// The entry that the words after `entry` describe.
     fn read<'a>(words: &mut Words<'a>) -> Result<Self, Complaint<'a>>;
@@ -41,9 +58,7 @@ pub trait Written: Entry + Copy {
 }
 
 impl Written for Point2 {
-    fn kind() -> &'static str {
-        "point"
-    }
+    const KIND: Kind = Kind::Point;
 
     fn read<'a>(words: &mut Words<'a>) -> Result<Point2, Complaint<'a>> {
         let x = words.read("x")?;
@@ -57,7 +72,10 @@ impl Written for Point2 {
 }
 
 /// The name that a word spells; `-` is none.
-fn read_name<'a>(word: &'a str) -> Result<u64, Complaint<'a>> {
+fn read_name<'a>(word: &'a str) -> Result<u64, Complaint<'a>>
+    ensures dash { word.now ≡ codes "-" → result ≡ Ok 0 }
+    ensures packed { word.now ≢ codes "-" → MatchOption (packed_name word.now) (IsErr result) (λ name. result ≡ Ok name) }
+{
     if word == "-" {
         return Ok(0);
     }
@@ -70,6 +88,10 @@ struct Spelled(Setting);
 
 impl FromStr for Spelled {
     type Err = Misspelled;
+
+    ghost use Rattle.pad.specs.Spelling.{ReadsSetting};
+
+    ghost from_str_gives = { ReadsSetting };
 
     fn from_str(word: &str) -> Result<Spelled, Misspelled> {
         if let Some(turn) = word.strip_prefix("dial:") {
@@ -97,9 +119,7 @@ impl fmt::Display for Spelled {
 }
 
 impl Written for Preset {
-    fn kind() -> &'static str {
-        "preset"
-    }
+    const KIND: Kind = Kind::Preset;
 
     fn read<'a>(words: &mut Words<'a>) -> Result<Preset, Complaint<'a>> {
         let x = words.read("x")?;

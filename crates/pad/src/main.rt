@@ -9,7 +9,6 @@ mod player;
 mod script;
 mod shown;
 mod tables;
-mod turn;
 mod walks;
 
 use player::play;

@@ -1,5 +1,5 @@
 // Plays a script: a shelf of one kind of entry at a time, with a draft or a map beside it.
-ghost use Rattle.std.specs.Prelude.{◌≤◌, ◌<◌, IfOk, MatchResult};
+ghost use Rattle.std.specs.Prelude.{◌≡◌, ◌≤◌, IfOk, MatchResult};
 ghost use Rattle.pad.specs.Turns.{bytes, Left, to_play};
 
 use crate::bench::Bench;
@@ -9,7 +9,6 @@ use crate::kind::{Kind, Written};
 use crate::script::{Script, Words, read_line};
 use crate::shown::{Counts, Outcome, Settled};
 use crate::tables::{Request, read_request, show, tell_check, write_record};
-use crate::turn::Start;
 use crate::walks::{tell_entry, tell_hull};
 use entry::{Point2, Preset};
 use links::NONE;
@@ -24,178 +23,192 @@ enum Beside<'m> {
     Map(Map<'m>),
 }
 
+/// A new start that a line asks for.
+#[derive(Clone, Copy)]
+enum Start {
+    /// Over an empty shelf of this kind.
+    Kind(Kind),
+    /// With a new draft beside the shelf.
+    Draft(Request),
+}
+
 /// A script that is played over a shelf of one kind.
 #[derive(Drop)]
 struct Player<'r, 't, E: Written> {
+    rt: &'r HostRuntime,
     script: Script<'t>,
     bench: Bench<'r, E>,
 }
 
-/// Plays a command on a draft.
-fn play_on_draft<'a, E: Written>(
-    bench: &Bench<'_, E>,
-    command: OnDraft,
-    words: &mut Words<'a>,
-    beside: &mut Beside<'_>,
-) -> Result<(), Trouble<'a>> {
-    let Beside::Draft(draft) = beside else {
-        return Err(Trouble::Line(Complaint::NoDraft));
-    };
-    match command {
-        OnDraft::Write(record) => write_record(bench.rt(), record, words, draft)?,
-        OnDraft::Check => {
-            words.end()?;
-            tell_check(bench.rt(), draft.check(bench.entries(), bench.counted()))?;
-        }
-        OnDraft::Settle => {
-            words.end()?;
-            settle(bench, beside)?;
-        }
-    }
-    Ok(())
-}
-
-/// Plays a command on a map.
-fn play_on_map<'a>(
-    rt: &HostRuntime,
-    command: OnMap,
-    words: &mut Words<'a>,
-    beside: &mut Beside<'_>,
-) -> Result<(), Trouble<'a>> {
-    let Beside::Map(map) = beside else {
-        return Err(Trouble::Line(Complaint::NoMap));
-    };
-    match command {
-        OnMap::Walk => tell_entry(rt, words, map)?,
-        OnMap::Hull => tell_hull(rt, words, map)?,
-        OnMap::Reopen => {
-            words.end()?;
-            reopen(rt, beside)?;
-        }
-    }
-    Ok(())
-}
-
-/// Shows the draft or the map.
-fn play_show<'a>(
-    rt: &HostRuntime,
-    words: &mut Words<'a>,
-    beside: &Beside<'_>,
-) -> Result<(), Trouble<'a>> {
-    match beside {
-        Beside::Nothing => return Err(Trouble::Line(Complaint::NoMap)),
-        Beside::Draft(draft) => {
-            words.end()?;
-            show(rt, draft)?;
-        }
-        Beside::Map(map) => {
-            words.end()?;
-            show(rt, map)?;
-        }
-    }
-    Ok(())
-}
-
-/// Settles a draft and tells the outcome; there is a map after either.
-fn settle<E: Written>(bench: &Bench<'_, E>, beside: &mut Beside<'_>) -> io::Result<()> {
-    if let Beside::Draft(draft) = mem::replace(beside, Beside::Nothing) {
-        let mut verdict = Ok(());
-        let map = draft.settle(bench.entries(), bench.counted(), &mut verdict);
-        let accepted = Settled(map.shape());
-        *beside = Beside::Map(map);
-        println!(bench.rt(); "settle: {}", Outcome(verdict.map(|()| accepted)))?;
-    }
-    Ok(())
-}
-
-/// Makes a map a draft again.
-fn reopen(rt: &HostRuntime, beside: &mut Beside<'_>) -> io::Result<()> {
-    if let Beside::Map(map) = mem::replace(beside, Beside::Nothing) {
-        *beside = Beside::Draft(map.reopen());
-        println!(rt; "reopen: a draft again")?;
-    }
-    Ok(())
-}
-
-/// Plays a line; tells whether it is a new start.
-fn play_line<'a, E: Written>(
-    bench: &mut Bench<'_, E>,
-    line: &'a [u8],
-    beside: &mut Beside<'_>,
-) -> Result<Option<Start>, Trouble<'a>> {
-    let Some((command, mut words)) = read_line(line)? else {
-        return Ok(None);
-    };
-    let words = &mut words;
-    match command {
-        Command::Kind => {
-            let kind = words.read("kind")?;
-            words.end()?;
-            return Ok(Some(Start::Kind(kind)));
-        }
-        Command::Draft => return Ok(Some(Start::Draft(read_request(words)?))),
-        Command::OnShelf(command) => bench.play(command, words)?,
-        Command::OnDraft(command) => play_on_draft(bench, command, words, beside)?,
-        Command::OnMap(command) => play_on_map(bench.rt(), command, words, beside)?,
-        Command::Show => play_show(bench.rt(), words, beside)?,
-    }
-    Ok(None)
-}
-
-/// Tells what is wrong with a line; the script goes on.
-fn told(
-    rt: &HostRuntime,
-    number: u64,
-    played: Result<Option<Start>, Trouble<'_>>,
-) -> io::Result<Option<Start>> {
-    match played {
-        Ok(start) => Ok(start),
-        Err(Trouble::Line(complaint)) => {
-            println!(rt; "line {number}: {complaint}")?;
-            Ok(None)
-        }
-        Err(Trouble::Outside(error)) => Err(error),
-    }
-}
-
 impl<'r, 't, E: Written> Player<'r, 't, E> {
+    /// Over an empty shelf.
+    fn new(rt: &'r HostRuntime, script: Script<'t>) -> Player<'r, 't, E>
+        ensures { result.script ≡ script.entry }
+    {
+        Player {
+            rt,
+            script,
+            bench: Bench::new(rt),
+        }
+    }
+
+    /// Settles a draft and tells the outcome; there is a map after either.
+    fn settle(&self, beside: &mut Beside<'_>) -> io::Result<()> {
+        if let Beside::Draft(draft) = mem::replace(beside, Beside::Nothing) {
+            let mut verdict = Ok(());
+            let map = draft.settle(self.bench.entries(), self.bench.counted(), &mut verdict);
+            let settled = Settled(map.shape());
+            *beside = Beside::Map(map);
+            println!(self.rt; "settle: {}", Outcome(verdict.map(|()| settled)))?;
+        }
+        Ok(())
+    }
+
+    /// Makes a map a draft again.
+    fn reopen(&self, beside: &mut Beside<'_>) -> io::Result<()> {
+        if let Beside::Map(map) = mem::replace(beside, Beside::Nothing) {
+            *beside = Beside::Draft(map.reopen());
+            println!(self.rt; "reopen: a draft again")?;
+        }
+        Ok(())
+    }
+
+    /// Plays a command on a draft.
+    fn play_on_draft<'a>(
+        &self,
+        command: OnDraft,
+        words: &mut Words<'a>,
+        beside: &mut Beside<'_>,
+    ) -> Result<(), Trouble<'a>> {
+        let Beside::Draft(draft) = beside else {
+            return Err(Complaint::NoDraft.into());
+        };
+        match command {
+            OnDraft::Write(record) => write_record(self.rt, record, words, draft)?,
+            OnDraft::Check => {
+                words.end()?;
+                let verdict = draft.check(self.bench.entries(), self.bench.counted());
+                tell_check(self.rt, verdict)?;
+            }
+            OnDraft::Settle => {
+                words.end()?;
+                self.settle(beside)?;
+            }
+        }
+        Ok(())
+    }
+
+    /// Plays a command on a map.
+    fn play_on_map<'a>(
+        &self,
+        command: OnMap,
+        words: &mut Words<'a>,
+        beside: &mut Beside<'_>,
+    ) -> Result<(), Trouble<'a>> {
+        let Beside::Map(map) = beside else {
+            return Err(Complaint::NoMap.into());
+        };
+        match command {
+            OnMap::Walk => tell_entry(self.rt, words, map)?,
+            OnMap::Hull => tell_hull(self.rt, words, map)?,
+            OnMap::Reopen => {
+                words.end()?;
+                self.reopen(beside)?;
+            }
+        }
+        Ok(())
+    }
+
+    /// `show`: shows the draft or the map.
+    fn play_show<'a>(&self, words: &mut Words<'a>, beside: &Beside<'_>) -> Result<(), Trouble<'a>> {
+        match beside {
+            Beside::Nothing => return Err(Complaint::NoMap.into()),
+            Beside::Draft(draft) => {
+                words.end()?;
+                show(self.rt, draft)?;
+            }
+            Beside::Map(map) => {
+                words.end()?;
+                show(self.rt, map)?;
+            }
+        }
+        Ok(())
+    }
+
+    /// Plays a line, or tells of the new start that it asks for.
+    fn play_line<'a>(
+        &mut self,
+        line: &'a [u8],
+        beside: &mut Beside<'_>,
+    ) -> Result<Option<Start>, Trouble<'a>>
+        ensures { self.new.script ≡ self.old.script }
+    {
+        let Some((command, mut words)) = read_line(line)? else {
+            return Ok(None);
+        };
+        let words = &mut words;
+        match command {
+            Command::Kind => {
+                let kind = words.read("kind")?;
+                words.end()?;
+                return Ok(Some(Start::Kind(kind)));
+            }
+            Command::Draft => return Ok(Some(Start::Draft(read_request(words)?))),
+            Command::OnShelf(command) => self.bench.play(command, words)?,
+            Command::OnDraft(command) => self.play_on_draft(command, words, beside)?,
+            Command::OnMap(command) => self.play_on_map(command, words, beside)?,
+            Command::Show => self.play_show(words, beside)?,
+        }
+        Ok(None)
+    }
+
+    /// Tells what is wrong with a line; the script goes on.
+    fn told(&self, played: Result<Option<Start>, Trouble<'_>>) -> io::Result<Option<Start>> {
+        match played {
+            Ok(start) => Ok(start),
+            Err(Trouble::Line(complaint)) => {
+                println!(self.rt; "line {}: {complaint}", self.script.line())?;
+                Ok(None)
+            }
+            Err(Trouble::Outside(error)) => Err(error),
+        }
+    }
+
     /// Plays lines over the shelf and what lies beside it, up to a new start or the end.
     fn play_lines(&mut self, beside: &mut Beside<'_>) -> io::Result<Option<Start>>
         ensures { MatchResult result (λ start. Left start self.old.script self.new.script) (λ _. bytes self.new.script ≤ bytes self.old.script) }
     {
         while let Some(line) = self.script.next_line() {
-            let played = play_line(&mut self.bench, line, beside);
-            if let Some(start) = told(self.bench.rt(), self.script.line(), played)? {
+            let played = self.play_line(line, beside);
+            if let Some(start) = self.told(played)? {
                 return Ok(Some(start));
             }
         }
         Ok(None)
     }
 
-    /// Plays a draft over new memory.
-    fn play_draft(&mut self, request: Request) -> io::Result<Option<Start>>
-        ensures { MatchResult result (λ start. Left start self.old.script self.new.script) (λ _. bytes self.new.script ≤ bytes self.old.script) }
-    {
-        let rt = self.bench.rt();
-        println!(rt; "draft: {}", Counts(request.shape))?;
-        let mut words = vec![in rt.alloc(); NONE; request.len]?;
-        let mut beside = Beside::Draft(Draft::new(words.as_mut_slice(), request.shape));
-        self.play_lines(&mut beside)
-    }
-
     /// Plays lines with nothing beside the shelf.
     fn play_bare(&mut self) -> io::Result<Option<Start>>
         ensures { MatchResult result (λ start. Left start self.old.script self.new.script) (λ _. bytes self.new.script ≤ bytes self.old.script) }
     {
-        let mut beside = Beside::Nothing;
-        self.play_lines(&mut beside)
+        self.play_lines(&mut Beside::Nothing)
     }
 
-    /// Plays a new shelf, and drafts one after another, up to a line that turns to a kind or to the end.
+    /// Plays lines with a draft over new memory beside the shelf.
+    fn play_draft(&mut self, request: Request) -> io::Result<Option<Start>>
+        ensures { MatchResult result (λ start. Left start self.old.script self.new.script) (λ _. bytes self.new.script ≤ bytes self.old.script) }
+    {
+        println!(self.rt; "draft: {}", Counts(request.shape))?;
+        let mut words = vec![in self.rt.alloc(); NONE; request.len]?;
+        let draft = Draft::new(words.as_mut_slice(), request.shape);
+        self.play_lines(&mut Beside::Draft(draft))
+    }
+
+    /// Plays to the end, or up to a line that turns to a kind, with what is left after it.
     fn play(mut self) -> io::Result<Option<(Kind, Script<'t>)>>
         ensures { IfOk result (λ next. to_play next ≤ bytes self.entry.script) }
     {
-        println!(self.bench.rt(); "kind {}: the shelf is empty", E::kind())?;
+        println!(self.rt; "kind {}: the shelf is empty", E::KIND)?;
         let mut start = self.play_bare()?;
         while let Some(Start::Draft(request)) = start {
             start = self.play_draft(request)?;
@@ -207,24 +220,13 @@ impl<'r, 't, E: Written> Player<'r, 't, E> {
     }
 }
 
-/// Plays over a new shelf of one kind.
-fn play_kind<'t, E: Written>(
-    rt: &HostRuntime,
-    script: Script<'t>,
-) -> io::Result<Option<(Kind, Script<'t>)>>
-    ensures { IfOk result (λ next. to_play next ≤ bytes script.entry) }
-{
-    let bench: Bench<'_, E> = Bench::new(rt);
-    Player { script, bench }.play()
-}
-
 /// Plays a whole script, from a shelf of points on.
 pub fn play(rt: &HostRuntime, text: &[u8]) -> io::Result<()> {
     let mut next = Some((Kind::Point, Script::new(text)));
     while let Some((kind, script)) = next {
         next = match kind {
-            Kind::Point => play_kind::<Point2>(rt, script)?,
-            Kind::Preset => play_kind::<Preset>(rt, script)?,
+            Kind::Point => Player::<Point2>::new(rt, script).play()?,
+            Kind::Preset => Player::<Preset>::new(rt, script).play()?,
         };
     }
     Ok(())

@@ -42,6 +42,10 @@ pub struct Link(pub u32);
 impl FromStr for Link {
     type Err = ParseIntError;
 
+    ghost use Rattle.pad.specs.Spelling.{ReadsLink};
+
+    ghost from_str_gives = { ReadsLink };
+
     fn from_str(word: &str) -> Result<Link, ParseIntError> {
         if word == "-" {
             return Ok(Link(NONE));

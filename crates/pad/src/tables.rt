@@ -1,5 +1,5 @@
 // What a script does to a draft and shows of a map.
-ghost use Rattle.std.specs.Prelude.{◌≤◌, IfOk};
+ghost use Rattle.std.specs.Prelude.{◌≡◌, ℕ, ◌<◌, ◌≤◌, IfOk};
 
 use crate::command::Record;
 use crate::complaint::{Complaint, Trouble};
@@ -22,7 +22,8 @@ pub struct Request {
 
 /// `draft N E F [TN TE TF [LEN]]`
 pub fn read_request<'a>(words: &mut Words<'a>) -> Result<Request, Complaint<'a>>
-    ensures { IfOk result (λ request. request.len ≤ MOST) }
+    ensures most { IfOk result (λ request. request.len ≤ MOST) }
+    ensures too_long { (len : ℕ) → result ≡ Err (Complaint.TooLong len) → MOST < len }
 {
     let n = words.read::<u32>("number of entries")?;
     let e = words.read::<u32>("number of edges")?;

@@ -21,6 +21,10 @@ struct Way([End; 2]);
 impl FromStr for Way {
     type Err = Misspelled;
 
+    ghost use Rattle.pad.specs.Spelling.{ReadsWay};
+
+    ghost from_str_gives = { ReadsWay };
+
     fn from_str(word: &str) -> Result<Way, Misspelled> {
         match word {
             "back" => Ok(Way([End::Back, End::Back])),
@@ -44,6 +48,7 @@ fn tell<N: NextBackFn>(
     map: &Map<'_>,
     Way(ends): Way,
 ) -> io::Result<()> {
+    // No walk is as long as this bound, which shows that the loop ends.
     for end in ends.iter().cycle().take(u32::MAX as usize) {
         let step = match end {
             End::Front => walk.next::<N>(map),
