@@ -1,6 +1,7 @@
 // The shelf that a script fills, the count that goes with it, and what commands tell of them.
 ghost use Rattle.std.specs.Prelude.{◌≡◌, ◌≤◌, ◌↔◌, [], ◌∷◌, ◌++◌, length, IsSome, OnOk};
 ghost use Rattle.pad.specs.Counting.{count_or};
+ghost use Rattle.pad.specs.Troubles.{OnBadLine};
 
 use crate::command::OnShelf;
 use crate::complaint::{NoSpot, Trouble};
@@ -75,7 +76,9 @@ impl<'r, E: Written> Bench<'r, E> {
     }
 
     /// Plays a command on the shelf.
-    pub fn play<'a>(&mut self, command: OnShelf, words: &mut Words<'a>) -> Result<(), Trouble<'a>> {
+    pub fn play<'a>(&mut self, command: OnShelf, words: &mut Words<'a>) -> Result<(), Trouble<'a>>
+        ensures { OnBadLine result (self.new ≡ self.old) }
+    {
         match command {
             OnShelf::Entry => self.add_entry(words)?,
             OnShelf::Side => self.tell_side(words)?,
@@ -97,6 +100,7 @@ impl<'r, E: Written> Bench<'r, E> {
     fn add_entry<'a>(&mut self, words: &mut Words<'a>) -> Result<(), Trouble<'a>>
         ensures added { OnOk result ((entry : E) × (self.new.entries.items ≡ self.old.entries.items ++ entry ∷ [])) }
         ensures count { self.new.count ≡ self.old.count }
+        ensures bad_line { OnBadLine result (self.new ≡ self.old) }
     {
         let entry = E::read(words)?;
         words.end()?;
@@ -175,6 +179,7 @@ impl<'r, E: Written> Bench<'r, E> {
     fn set_count<'a>(&mut self, words: &mut Words<'a>) -> Result<(), Trouble<'a>>
         ensures set { OnOk result (IsSome self.new.count) }
         ensures entries { self.new.entries ≡ self.old.entries }
+        ensures bad_line { OnBadLine result (self.new ≡ self.old) }
     {
         let given = words.read::<usize>("count")?;
         words.end()?;

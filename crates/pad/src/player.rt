@@ -1,5 +1,7 @@
 // Plays a script: a shelf of one kind of entry at a time, with a draft or a map beside it.
 ghost use Rattle.std.specs.Prelude.{◌≡◌, ◌≤◌, IfOk, MatchResult};
+ghost use Rattle.pad.specs.Beside.{IsDraft, IsMap};
+ghost use Rattle.pad.specs.Troubles.{asked, OnBadLine};
 ghost use Rattle.pad.specs.Turns.{bytes, Left, to_play};
 
 use crate::bench::Bench;
@@ -53,7 +55,9 @@ impl<'r, 't, E: Written> Player<'r, 't, E> {
     }
 
     /// Settles a draft and tells the outcome; there is a map after either.
-    fn settle(&self, beside: &mut Beside<'_>) -> io::Result<()> {
+    fn settle(&self, beside: &mut Beside<'_>) -> io::Result<()>
+        ensures { IsDraft beside.old → IsMap beside.new }
+    {
         if let Beside::Draft(draft) = mem::replace(beside, Beside::Nothing) {
             let mut verdict = Ok(());
             let map = draft.settle(self.bench.entries(), self.bench.counted(), &mut verdict);
@@ -65,7 +69,9 @@ impl<'r, 't, E: Written> Player<'r, 't, E> {
     }
 
     /// Makes a map a draft again.
-    fn reopen(&self, beside: &mut Beside<'_>) -> io::Result<()> {
+    fn reopen(&self, beside: &mut Beside<'_>) -> io::Result<()>
+        ensures { IsMap beside.old → IsDraft beside.new }
+    {
         if let Beside::Map(map) = mem::replace(beside, Beside::Nothing) {
             *beside = Beside::Draft(map.reopen());
             println!(self.rt; "reopen: a draft again")?;
@@ -79,7 +85,10 @@ impl<'r, 't, E: Written> Player<'r, 't, E> {
         command: OnDraft,
         words: &mut Words<'a>,
         beside: &mut Beside<'_>,
-    ) -> Result<(), Trouble<'a>> {
+    ) -> Result<(), Trouble<'a>>
+        ensures no_draft { ¬ (IsDraft beside.old) → result ≡ Err (Trouble.Line Complaint.NoDraft) }
+        ensures bad_line { OnBadLine result (beside.new ≡ beside.old) }
+    {
         let Beside::Draft(draft) = beside else {
             return Err(Complaint::NoDraft.into());
         };
@@ -104,7 +113,10 @@ impl<'r, 't, E: Written> Player<'r, 't, E> {
         command: OnMap,
         words: &mut Words<'a>,
         beside: &mut Beside<'_>,
-    ) -> Result<(), Trouble<'a>> {
+    ) -> Result<(), Trouble<'a>>
+        ensures no_map { ¬ (IsMap beside.old) → result ≡ Err (Trouble.Line Complaint.NoMap) }
+        ensures bad_line { OnBadLine result (beside.new ≡ beside.old) }
+    {
         let Beside::Map(map) = beside else {
             return Err(Complaint::NoMap.into());
         };
@@ -120,7 +132,9 @@ impl<'r, 't, E: Written> Player<'r, 't, E> {
     }
 
     /// `show`: shows the draft or the map.
-    fn play_show<'a>(&self, words: &mut Words<'a>, beside: &Beside<'_>) -> Result<(), Trouble<'a>> {
+    fn play_show<'a>(&self, words: &mut Words<'a>, beside: &Beside<'_>) -> Result<(), Trouble<'a>>
+        ensures { ¬ (IsDraft beside.now) → ¬ (IsMap beside.now) → result ≡ Err (Trouble.Line Complaint.NoMap) }
+    {
         match beside {
             Beside::Nothing => return Err(Complaint::NoMap.into()),
             Beside::Draft(draft) => {
@@ -141,7 +155,8 @@ impl<'r, 't, E: Written> Player<'r, 't, E> {
         line: &'a [u8],
         beside: &mut Beside<'_>,
     ) -> Result<Option<Start>, Trouble<'a>>
-        ensures { self.new.script ≡ self.old.script }
+        ensures script { self.new.script ≡ self.old.script }
+        ensures bad_line { OnBadLine result ((self.new ≡ self.old) × (beside.new ≡ beside.old)) }
     {
         let Some((command, mut words)) = read_line(line)? else {
             return Ok(None);
@@ -163,7 +178,9 @@ impl<'r, 't, E: Written> Player<'r, 't, E> {
     }
 
     /// Tells what is wrong with a line; the script goes on.
-    fn told(&self, played: Result<Option<Start>, Trouble<'_>>) -> io::Result<Option<Start>> {
+    fn told(&self, played: Result<Option<Start>, Trouble<'_>>) -> io::Result<Option<Start>>
+        ensures { IfOk result (λ start. start ≡ asked played.entry) }
+    {
         match played {
             Ok(start) => Ok(start),
             Err(Trouble::Line(complaint)) => {

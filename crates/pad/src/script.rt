@@ -1,5 +1,6 @@
 // A script: its lines, and the words of a line.
-ghost use Rattle.std.specs.Prelude.{◌≡◌, ◌<◌, length, MatchOption, MatchResult};
+ghost use Rattle.std.specs.Prelude.{◌≡◌, ◌+◌, ◌<◌, length, min, IfSome, MatchOption, MatchResult};
+ghost use Rattle.pad.specs.Lines.{CutsLine};
 ghost use Rattle.pad.specs.Reading.{EndsLine, IsAtEnd, IsWordsOf, Reads, ReadsAs, ReadsLine, ReadsOr, Takes};
 
 use crate::command::Command;
@@ -34,7 +35,9 @@ impl<'a> Script<'a> {
 
     /// The next line without its line feed, or none at the end.
     pub fn next_line(&mut self) -> Option<&'a [u8]>
-        ensures { MatchOption result ((length self.old.rest.now ≡ 0) × (length self.new.rest.now ≡ 0)) (λ _. length self.new.rest.now < length self.old.rest.now) }
+        ensures shorter { MatchOption result ((length self.old.rest.now ≡ 0) × (length self.new.rest.now ≡ 0)) (λ _. length self.new.rest.now < length self.old.rest.now) }
+        ensures cut { MatchOption result (self.new ≡ self.old) (λ line. CutsLine self.old.rest.now line.now self.new.rest.now) }
+        ensures number { IfSome result (λ _. self.new.line ≡ min (self.old.line + 1) u64.MAX) }
     {
         let rest = self.rest;
         if rest.is_empty() {

@@ -1,5 +1,6 @@
 // What a script does to a draft and shows of a map.
 ghost use Rattle.std.specs.Prelude.{◌≡◌, ℕ, ◌<◌, ◌≤◌, IfOk};
+ghost use Rattle.pad.specs.Troubles.{OnBadLine};
 
 use crate::command::Record;
 use crate::complaint::{Complaint, Trouble};
@@ -53,7 +54,10 @@ pub fn write_record<'a>(
     record: Record,
     words: &mut Words<'a>,
     draft: &mut Draft<'_>,
-) -> Result<(), Trouble<'a>> {
+) -> Result<(), Trouble<'a>>
+    ensures shape { draft.new.shape ≡ draft.old.shape }
+    ensures bad_line { OnBadLine result (draft.new ≡ draft.old) }
+{
     let (number, done) = match record {
         Record::Out => {
             let v = words.read::<u32>("entry number")?;
