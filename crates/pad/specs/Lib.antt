@@ -1,6 +1,7 @@
 pub mod Beside
 pub mod Commands
 pub mod Counting
+pub mod Entries
 pub mod Kinds
 pub mod Lines
 pub mod Reading

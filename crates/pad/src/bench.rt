@@ -1,6 +1,9 @@
 // The shelf that a script fills, the count that goes with it, and what commands tell of them.
-ghost use Rattle.std.specs.Prelude.{◌≡◌, ◌≤◌, ◌↔◌, [], ◌∷◌, ◌++◌, length, IsSome, OnOk};
+ghost use Rattle.std.specs.Prelude.{◌≡◌, ◌≤◌, ◌↔◌, [], ◌∷◌, ◌++◌, ℕ, length, OnOk};
+ghost use Rattle.pad.specs.declared.script.Words.{Words};
 ghost use Rattle.pad.specs.Counting.{count_or};
+ghost use Rattle.pad.specs.Entries.{TakesWhere};
+ghost use Rattle.pad.specs.Spelling.{WritesNumber};
 ghost use Rattle.pad.specs.Troubles.{OnBadLine};
 
 use crate::command::OnShelf;
@@ -98,7 +101,7 @@ impl<'r, E: Written> Bench<'r, E> {
 
     /// `entry ..`: puts an entry on the shelf, with a place or without one.
     fn add_entry<'a>(&mut self, words: &mut Words<'a>) -> Result<(), Trouble<'a>>
-        ensures added { OnOk result ((entry : E) × (self.new.entries.items ≡ self.old.entries.items ++ entry ∷ [])) }
+        ensures added { OnOk result ((entry : E) × (after : Words) × E.describes words.old entry after × (self.new.entries.items ≡ self.old.entries.items ++ entry ∷ [])) }
         ensures count { self.new.count ≡ self.old.count }
         ensures bad_line { OnBadLine result (self.new ≡ self.old) }
     {
@@ -177,7 +180,7 @@ impl<'r, E: Written> Bench<'r, E> {
 
     /// `count C`: the count beside the shelf, for check and settle.
     fn set_count<'a>(&mut self, words: &mut Words<'a>) -> Result<(), Trouble<'a>>
-        ensures set { OnOk result (IsSome self.new.count) }
+        ensures set { OnOk result ((count : ℕ) × (after : Words) × TakesWhere (WritesNumber 64 count) words.old after × (self.new.count ≡ Some count)) }
         ensures entries { self.new.entries ≡ self.old.entries }
         ensures bad_line { OnBadLine result (self.new ≡ self.old) }
     {

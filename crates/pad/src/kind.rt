@@ -1,6 +1,7 @@
 // The kinds of entry that a script can put on the shelf: how each is written and shown.
-ghost use Rattle.std.specs.Prelude.{◌≡◌, ◌≢◌, codes, IsErr, MatchOption};
+ghost use Rattle.std.specs.Prelude.{◌≡◌, ◌≢◌, ◌↔◌, codes, IfOk, IsErr};
 ghost use Rattle.entry.specs.Naming.{packed_name};
+ghost use Rattle.pad.specs.Entries.{IsName};
 
 use crate::complaint::{Complaint, Misspelled};
 use crate::script::Words;
@@ -50,14 +51,24 @@ pub trait Written: Entry + Copy {
     /// The kind's name.
     const KIND: Kind;
 
+    ghost use Rattle.pad.specs.declared.script.Words.{Words as words};
+
+    // The words that describe an entry, and those after them.
+    ghost describes: { words → Self → words → Type 0 };
+
     /// The entry that the words after `entry` describe.
-    fn read<'a>(words: &mut Words<'a>) -> Result<Self, Complaint<'a>>;
+    fn read<'a>(words: &mut Words<'a>) -> Result<Self, Complaint<'a>>
+        ensures { IfOk result (λ entry. describes words.old entry words.new) };
 
     /// Writes what the entry has beside its place.
     fn details<W: fmt::Write>(&self, f: &mut fmt::Formatter<W>) -> fmt::Result;
 }
 
 impl Written for Point2 {
+    ghost use Rattle.pad.specs.Entries.{DescribesPoint};
+
+    ghost describes = { DescribesPoint };
+
     const KIND: Kind = Kind::Point;
 
     fn read<'a>(words: &mut Words<'a>) -> Result<Point2, Complaint<'a>> {
@@ -73,8 +84,8 @@ impl Written for Point2 {
 
 /// The name that a word spells; `-` is none.
 fn read_name<'a>(word: &'a str) -> Result<u64, Complaint<'a>>
-    ensures dash { word.now ≡ codes "-" → result ≡ Ok 0 }
-    ensures packed { word.now ≢ codes "-" → MatchOption (packed_name word.now) (IsErr result) (λ name. result ≡ Ok name) }
+    ensures named { IfOk result (λ name. IsName name word.now) }
+    ensures refused { IsErr result ↔ ((word.now ≢ codes "-") × (packed_name word.now ≡ None)) }
 {
     if word == "-" {
         return Ok(0);
@@ -119,6 +130,10 @@ impl fmt::Display for Spelled {
 }
 
 impl Written for Preset {
+    ghost use Rattle.pad.specs.Entries.{DescribesPreset};
+
+    ghost describes = { DescribesPreset };
+
     const KIND: Kind = Kind::Preset;
 
     fn read<'a>(words: &mut Words<'a>) -> Result<Preset, Complaint<'a>> {

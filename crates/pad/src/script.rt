@@ -114,6 +114,7 @@ impl<'a> Words<'a> {
         &mut self,
         what: &'static str,
     ) -> Result<[usize; N], Complaint<'a>> {
+        // A loop, since it is not proved for every N that what `try_from_fn` makes fits in memory.
         let mut numbers = [0; N];
         for number in numbers.iter_mut() {
             *number = self.read(what)?;

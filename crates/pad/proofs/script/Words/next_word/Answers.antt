@@ -1,5 +1,5 @@
 -- The word that is dropped begins a comment.
-use Rattle.std.proofs.Common.{◌≡◌, inr, arith, rules, tests, slice_index}
+use Rattle.std.proofs.Common.{◌≡◌, inr, rules, tests, slice_index}
 use Rattle.pad.specs.Reading.{hash}
 use Rattle.pad.proofs.script.Words.next_word.Goals as goal
 
