@@ -1,1 +1,10 @@
+pub mod Beside
+pub mod Commands
+pub mod Counting
+pub mod Entries
+pub mod Kinds
+pub mod Lines
+pub mod Reading
+pub mod Spelling
+pub mod Troubles
 pub mod Turns

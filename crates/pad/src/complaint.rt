@@ -3,6 +3,10 @@ use entry::EntryFault;
 use std::alloc::{AllocError, AllocFailed};
 use std::{fmt, io};
 
+/// A word that stands for nothing of the kind that is read.
+#[derive(Clone, Copy)]
+pub struct Misspelled;
+
 /// What is wrong with a line.
 #[derive(Clone, Copy)]
 pub enum Complaint<'a> {
@@ -68,24 +72,46 @@ pub enum Trouble<'a> {
 }
 
 impl<'a> From<Complaint<'a>> for Trouble<'a> {
+    ghost use Rattle.std.specs.Prelude.{◌≡◌};
+    ghost use Rattle.pad.specs.declared.complaint.Trouble.TheVariants.{Line};
+
+    ghost from_gives = { λ complaint t. t ≡ Line complaint };
+
     fn from(complaint: Complaint<'a>) -> Trouble<'a> {
         Trouble::Line(complaint)
     }
 }
 
 impl From<NoSpot> for Trouble<'_> {
+    ghost use Rattle.std.specs.Prelude.{◌≡◌};
+    ghost use Rattle.pad.specs.declared.complaint.Complaint.TheVariants.{NoSpot as no_spot};
+    ghost use Rattle.pad.specs.declared.complaint.Trouble.TheVariants.{Line};
+
+    ghost from_gives = { λ why t. t ≡ Line (no_spot why) };
+
     fn from(why: NoSpot) -> Self {
         Trouble::Line(Complaint::NoSpot(why))
     }
 }
 
 impl From<io::Error> for Trouble<'_> {
+    ghost use Rattle.std.specs.Prelude.{◌≡◌};
+    ghost use Rattle.pad.specs.declared.complaint.Trouble.TheVariants.{Outside};
+
+    ghost from_gives = { λ error t. t ≡ Outside error };
+
     fn from(error: io::Error) -> Self {
         Trouble::Outside(error)
     }
 }
 
 impl<T: Drop> From<AllocFailed<T>> for Trouble<'_> {
+    ghost use Rattle.std.specs.Prelude.{◌≡◌};
+    ghost use Rattle.std.specs.declared.io.Error.{Error};
+    ghost use Rattle.pad.specs.declared.complaint.Trouble.TheVariants.{Outside};
+
+    ghost from_gives = { λ _ t. (error : Error) × (t ≡ Outside error) };
+
     fn from(_: AllocFailed<T>) -> Self {
         Trouble::Outside(AllocError.into())
     }

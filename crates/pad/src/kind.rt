@@ -1,8 +1,13 @@
 // The kinds of entry that a script can put on the shelf: how each is written and shown.
-use crate::complaint::Complaint;
+ghost use Rattle.std.specs.Prelude.{◌≡◌, ◌≢◌, ◌↔◌, codes, IfOk, IsErr};
+ghost use Rattle.entry.specs.Naming.{packed_name};
+ghost use Rattle.pad.specs.Entries.{IsName};
+
+use crate::complaint::{Complaint, Misspelled};
 use crate::script::Words;
 use entry::{Entry, Name, Point2, Preset, Setting, pack_name};
 use std::fmt;
+use std::str::FromStr;
 
 /// The kinds by name.
 #[derive(Clone, Copy)]
@@ -11,13 +16,32 @@ pub enum Kind {
     Preset,
 }
 
-impl Kind {
-    /// The kind that the next word names.
-    pub fn read<'a>(words: &mut Words<'a>) -> Result<Kind, Complaint<'a>> {
-        match words.word("kind")? {
+impl FromStr for Kind {
+    type Err = Misspelled;
+
+    ghost use Rattle.pad.specs.Kinds.{ReadsKind};
+
+    ghost from_str_gives = { ReadsKind };
+
+    fn from_str(word: &str) -> Result<Kind, Misspelled> {
+        match word {
             "point" => Ok(Kind::Point),
             "preset" => Ok(Kind::Preset),
-            word => Err(Complaint::Unread("kind", word)),
+            _ => Err(Misspelled),
+        }
+    }
+}
+
+impl fmt::Display for Kind {
+    ghost use Rattle.std.specs.Prelude.{Some};
+    ghost use Rattle.pad.specs.Kinds.{kind_word};
+
+    ghost output = { λ kind. Some (kind_word kind) };
+
+    fn fmt<W: fmt::Write>(&self, f: &mut fmt::Formatter<W>) -> fmt::Result {
+        match self {
+            Kind::Point => write!(f, "point"),
+            Kind::Preset => write!(f, "preset"),
         }
     }
 }
@@ -25,78 +49,98 @@ impl Kind {
 /// An entry that a script can write down.
 pub trait Written: Entry + Copy {
     /// The kind's name.
-    fn kind() -> &'static str;
+    const KIND: Kind;
+
+    ghost use Rattle.pad.specs.declared.script.Words.{Words};
+
+    // The words that describe an entry, and those after them.
+    ghost describes: { Words → Self → Words → Type 0 };
 
     /// The entry that the words after `entry` describe.
-    fn read<'a>(words: &mut Words<'a>) -> Result<Self, Complaint<'a>>;
+    fn read<'a>(words: &mut Words<'a>) -> Result<Self, Complaint<'a>>
+        ensures { IfOk result (λ entry. describes words.old entry words.new) };
 
     /// Writes what the entry has beside its place.
     fn details<W: fmt::Write>(&self, f: &mut fmt::Formatter<W>) -> fmt::Result;
 }
 
 impl Written for Point2 {
-    fn kind() -> &'static str {
-        "point"
-    }
+    ghost use Rattle.pad.specs.Entries.{DescribesPoint};
+
+    ghost describes = { DescribesPoint };
+
+    const KIND: Kind = Kind::Point;
 
     fn read<'a>(words: &mut Words<'a>) -> Result<Point2, Complaint<'a>> {
-        let x = words.number::<f64>("x")?;
-        let y = words.number::<f64>("y")?;
+        let x = words.read("x")?;
+        let y = words.read("y")?;
         Ok(Point2 { x, y })
     }
 
     fn details<W: fmt::Write>(&self, f: &mut fmt::Formatter<W>) -> fmt::Result {
-        let x = self.x;
-        let y = self.y;
-        write!(f, "written as {x} {y}")
+        write!(f, "written as {} {}", self.x, self.y)
     }
 }
 
 /// The name that a word spells; `-` is none.
-fn read_name<'a>(word: &'a str) -> Result<u64, Complaint<'a>> {
+fn read_name<'a>(word: &'a str) -> Result<u64, Complaint<'a>>
+    ensures named { IfOk result (λ name. IsName name word.now) }
+    ensures refused { IsErr result ↔ ((word.now ≢ codes "-") × (packed_name word.now ≡ None)) }
+{
     if word == "-" {
         return Ok(0);
     }
     pack_name(word.as_bytes()).ok_or(Complaint::Unread("name of at most eight bytes", word))
 }
 
-/// The setting that a word spells: `dial:0.5`, `switch:yes`, `switch:no` or `unset`.
-fn read_setting<'a>(word: &'a str) -> Result<Setting, Complaint<'a>> {
-    let complaint = Complaint::Unread("setting", word);
-    if let Some(turn) = word.strip_prefix("dial:") {
-        return match turn.parse::<f32>() {
-            Ok(turn) => Ok(Setting::Dial(turn)),
-            Err(_) => Err(complaint),
-        };
-    }
-    match word {
-        "switch:yes" => Ok(Setting::Switch(true)),
-        "switch:no" => Ok(Setting::Switch(false)),
-        "unset" => Ok(Setting::Unset),
-        _ => Err(complaint),
+/// A setting as a script spells it: `dial:0.5`, `switch:yes`, `switch:no` or `unset`.
+#[derive(Clone, Copy)]
+struct Spelled(Setting);
+
+impl FromStr for Spelled {
+    type Err = Misspelled;
+
+    ghost use Rattle.pad.specs.Spelling.{ReadsSetting};
+
+    ghost from_str_gives = { ReadsSetting };
+
+    fn from_str(word: &str) -> Result<Spelled, Misspelled> {
+        if let Some(turn) = word.strip_prefix("dial:") {
+            let turn = turn.parse::<f32>().map_err(|_| Misspelled)?;
+            return Ok(Spelled(Setting::Dial(turn)));
+        }
+        match word {
+            "switch:yes" => Ok(Spelled(Setting::Switch(true))),
+            "switch:no" => Ok(Spelled(Setting::Switch(false))),
+            "unset" => Ok(Spelled(Setting::Unset)),
+            _ => Err(Misspelled),
+        }
     }
 }
 
-/// Writes a setting as a script spells it.
-fn show_setting<W: fmt::Write>(setting: Setting, f: &mut fmt::Formatter<W>) -> fmt::Result {
-    match setting {
-        Setting::Dial(turn) => write!(f, "dial:{turn}"),
-        Setting::Switch(true) => write!(f, "switch:yes"),
-        Setting::Switch(false) => write!(f, "switch:no"),
-        Setting::Unset => write!(f, "unset"),
+impl fmt::Display for Spelled {
+    fn fmt<W: fmt::Write>(&self, f: &mut fmt::Formatter<W>) -> fmt::Result {
+        match self.0 {
+            Setting::Dial(turn) => write!(f, "dial:{turn}"),
+            Setting::Switch(true) => write!(f, "switch:yes"),
+            Setting::Switch(false) => write!(f, "switch:no"),
+            Setting::Unset => write!(f, "unset"),
+        }
     }
 }
 
 impl Written for Preset {
-    fn kind() -> &'static str {
-        "preset"
-    }
+    ghost use Rattle.pad.specs.Entries.{DescribesPreset};
+
+    ghost describes = { DescribesPreset };
+
+    const KIND: Kind = Kind::Preset;
 
     fn read<'a>(words: &mut Words<'a>) -> Result<Preset, Complaint<'a>> {
-        let x = words.number::<u16>("x")?;
-        let y = words.number::<u16>("y")?;
+        let x = words.read("x")?;
+        let y = words.read("y")?;
         let name = read_name(words.word("name")?)?;
-        let setting = read_setting(words.word("setting")?)?;
+        let Spelled(setting) = words.read("setting")?;
         Ok(Preset {
             x,
             y,
@@ -107,9 +151,8 @@ impl Written for Preset {
 
     fn details<W: fmt::Write>(&self, f: &mut fmt::Formatter<W>) -> fmt::Result {
         if self.name != 0 {
-            let name = Name(self.name);
-            write!(f, "'{name}', ")?;
+            write!(f, "'{}', ", Name(self.name))?;
         }
-        show_setting(self.setting, f)
+        write!(f, "{}", Spelled(self.setting))
     }
 }

@@ -1,11 +1,13 @@
 // Plays a script on a preset pad: one command a line, answered on standard output.
 #![tactic(auto)]
 
+mod bench;
+mod command;
 mod complaint;
 mod kind;
 mod player;
 mod script;
-mod shelf_commands;
+mod shown;
 mod tables;
 mod walks;
 

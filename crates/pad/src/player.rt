@@ -1,319 +1,253 @@
 // Plays a script: a shelf of one kind of entry at a time, with a draft or a map beside it.
-ghost use Rattle.std.specs.Prelude.{◌≤◌, MatchResult};
-ghost use Rattle.pad.specs.Turns.{bytes, Left};
+ghost use Rattle.std.specs.Prelude.{◌≡◌, ◌≤◌, IfOk, MatchResult};
+ghost use Rattle.pad.specs.Beside.{IsDraft, IsMap};
+ghost use Rattle.pad.specs.Troubles.{asked, OnBadLine};
+ghost use Rattle.pad.specs.Turns.{bytes, Left, to_play};
 
+use crate::bench::Bench;
+use crate::command::{Command, OnDraft, OnMap};
 use crate::complaint::{Complaint, Trouble};
 use crate::kind::{Kind, Written};
-use crate::script::{Script, Words};
-use crate::shelf_commands::play_shelf;
-use crate::tables::{Request, read_request, show, tell_check, tell_settle, write_record};
-use crate::walks::play_walk;
+use crate::script::{Script, Words, read_line};
+use crate::shown::{Outcome, Settled};
+use crate::tables::{Request, read_request, show, tell_check, write_record};
+use crate::walks::{tell_entry, tell_hull};
 use entry::{Point2, Preset};
-use links::{NONE, Shape};
+use links::NONE;
 use preset_map::{Draft, Map, Records, Refused};
-use std::io;
-use std::str::from_utf8;
+use std::{io, mem};
 
-/// What a line asks of those who play it.
+/// What lies beside the shelf.
+#[derive(Drop)]
+enum Beside<'m> {
+    Nothing,
+    Draft(Draft<'m>),
+    Map(Map<'m>),
+}
+
+/// A new start that a line asks for.
 #[derive(Clone, Copy)]
-pub enum Turn {
-    /// Nothing more.
-    Stay,
-    /// To start afresh with a kind of entry.
+enum Start {
+    /// Over an empty shelf of this kind.
     Kind(Kind),
-    /// To start a draft.
+    /// With a new draft beside the shelf.
     Draft(Request),
-    /// To settle the draft.
-    Settle,
-    /// To reopen the map.
-    Reopen,
 }
 
-/// The words of a line, or what is wrong with it as a text.
-fn words_of(line: &[u8]) -> Result<Words<'_>, Complaint<'_>> {
-    match from_utf8(line) {
-        Ok(text) => Ok(Words::new(text)),
-        Err(_) => Err(Complaint::NoText),
-    }
+/// A script that is played over a shelf of one kind.
+#[derive(Drop)]
+struct Player<'r, 't, E: Written> {
+    rt: &'r HostRuntime,
+    script: Script<'t>,
+    bench: Bench<'r, E>,
 }
 
-/// Plays a command that needs neither a draft nor a map.
-fn play_command<'a, E: Written>(
-    rt: &HostRuntime,
-    command: &'a str,
-    words: &mut Words<'a>,
-    shelf: &mut Vec<E>,
-    count: &mut Option<usize>,
-) -> Result<Turn, Trouble<'a>> {
-    match command {
-        "kind" => {
-            let kind = Kind::read(words)?;
-            words.end()?;
-            return Ok(Turn::Kind(kind));
-        }
-        "draft" => return Ok(Turn::Draft(read_request(words)?)),
-        "out" | "half" | "face" | "check" | "settle" => return Err(Trouble::Line(
-            Complaint::NoDraft,
-        )),
-        "reopen" | "show" | "walk" | "hull" => return Err(Trouble::Line(Complaint::NoMap)),
-        _ => {}
-    }
-    if play_shelf(rt, command, words, shelf, count)? {
-        return Ok(Turn::Stay);
-    }
-    Err(Trouble::Line(Complaint::Unknown(command)))
-}
-
-/// Plays a line where there is no draft.
-fn play_line<'a, E: Written>(
-    rt: &HostRuntime,
-    line: &'a [u8],
-    shelf: &mut Vec<E>,
-    count: &mut Option<usize>,
-) -> Result<Turn, Trouble<'a>> {
-    let mut words = words_of(line)?;
-    let Some(command) = words.next_word() else {
-        return Ok(Turn::Stay);
-    };
-    play_command(rt, command, &mut words, shelf, count)
-}
-
-/// Plays a line beside a draft.
-fn play_draft_line<'a, E: Written>(
-    rt: &HostRuntime,
-    line: &'a [u8],
-    shelf: &mut Vec<E>,
-    count: &mut Option<usize>,
-    draft: &mut Draft<'_>,
-) -> Result<Turn, Trouble<'a>> {
-    let mut words = words_of(line)?;
-    let Some(command) = words.next_word() else {
-        return Ok(Turn::Stay);
-    };
-    if write_record(rt, command, &mut words, draft)? {
-        return Ok(Turn::Stay);
-    }
-    match command {
-        "check" => {
-            words.end()?;
-            let counted = count.unwrap_or(shelf.len());
-            tell_check(rt, draft.check(shelf.as_slice(), counted))?;
-            Ok(Turn::Stay)
-        }
-        "settle" => {
-            words.end()?;
-            Ok(Turn::Settle)
-        }
-        "show" => {
-            words.end()?;
-            show(rt, draft)?;
-            Ok(Turn::Stay)
-        }
-        _ => play_command(rt, command, &mut words, shelf, count),
-    }
-}
-
-/// Plays a line beside a map.
-fn play_map_line<'a, E: Written>(
-    rt: &HostRuntime,
-    line: &'a [u8],
-    shelf: &mut Vec<E>,
-    count: &mut Option<usize>,
-    map: &Map<'_>,
-) -> Result<Turn, Trouble<'a>> {
-    let mut words = words_of(line)?;
-    let Some(command) = words.next_word() else {
-        return Ok(Turn::Stay);
-    };
-    if play_walk(rt, command, &mut words, map)? {
-        return Ok(Turn::Stay);
-    }
-    match command {
-        "reopen" => {
-            words.end()?;
-            Ok(Turn::Reopen)
-        }
-        "show" => {
-            words.end()?;
-            show(rt, map)?;
-            Ok(Turn::Stay)
-        }
-        _ => play_command(rt, command, &mut words, shelf, count),
-    }
-}
-
-/// Tells what is wrong with a line; the script goes on.
-fn told(rt: &HostRuntime, number: u64, played: Result<Turn, Trouble<'_>>) -> io::Result<Turn> {
-    match played {
-        Ok(turn) => Ok(turn),
-        Err(Trouble::Line(complaint)) => {
-            println!(rt; "line {number}: {complaint}")?;
-            Ok(Turn::Stay)
-        }
-        Err(Trouble::Outside(error)) => Err(error),
-    }
-}
-
-/// Tells that the map is a draft again.
-fn reopened(rt: &HostRuntime) -> io::Result<Turn> {
-    println!(rt; "reopen: a draft again")?;
-    Ok(Turn::Stay)
-}
-
-/// Plays lines beside a map, up to its reopening, a new start or the end.
-fn play_map<'m, E: Written>(
-    rt: &HostRuntime,
-    script: &mut Script,
-    shelf: &mut Vec<E>,
-    count: &mut Option<usize>,
-    map: Map<'m>,
-    left: &mut io::Result<Turn>,
-) -> Draft<'m>
-    ensures { bytes script.new ≤ bytes script.old }
-{
-    *left = Ok(Turn::Stay);
-    while let Some(line) = script.next_line() {
-        let number = script.line();
-        match told(rt, number, play_map_line(rt, line, shelf, count, &map)) {
-            Ok(Turn::Stay) | Ok(Turn::Settle) => {}
-            Ok(Turn::Reopen) => {
-                *left = reopened(rt);
-                break;
-            }
-            other => {
-                *left = other;
-                break;
-            }
-        }
-    }
-    map.reopen()
-}
-
-/// Plays lines beside a draft, and the map that it is settled into, up to a new start or the end.
-fn play_draft<E: Written>(
-    rt: &HostRuntime,
-    script: &mut Script,
-    shelf: &mut Vec<E>,
-    count: &mut Option<usize>,
-    memory: &mut [u32],
-    shape: Shape,
-) -> io::Result<Turn>
-    ensures { MatchResult result (λ turn. Left turn script.old script.new) (λ _. bytes script.new ≤ bytes script.old) }
-{
-    let mut draft = Draft::new(memory, shape);
-    while let Some(line) = script.next_line() {
-        let number = script.line();
-        match told(
+impl<'r, 't, E: Written> Player<'r, 't, E> {
+    /// Over an empty shelf.
+    fn new(rt: &'r HostRuntime, script: Script<'t>) -> Player<'r, 't, E>
+        ensures { result.script ≡ script.entry }
+    {
+        Player {
             rt,
-            number,
-            play_draft_line(rt, line, shelf, count, &mut draft),
-        )? {
-            Turn::Stay | Turn::Reopen => {}
-            Turn::Settle => {
-                let counted = count.unwrap_or(shelf.len());
-                let (map, verdict) = match draft.settle(shelf.as_slice(), counted) {
-                    Ok(map) => (map, Ok(())),
-                    Err(Refused { fault, map }) => (map, Err(fault)),
-                };
-                tell_settle(rt, verdict, map.shape())?;
-                let mut left = Ok(Turn::Stay);
-                draft = play_map(rt, script, shelf, count, map, &mut left);
-                match left? {
-                    Turn::Stay | Turn::Reopen | Turn::Settle => {}
-                    turn => return Ok(turn),
+            script,
+            bench: Bench::new(rt),
+        }
+    }
+
+    /// Settles a draft and tells the outcome; there is a map after either.
+    fn settle(&self, beside: &mut Beside<'_>) -> io::Result<()>
+        ensures { IsDraft beside.old → IsMap beside.new }
+    {
+        if let Beside::Draft(draft) = mem::replace(beside, Beside::Nothing) {
+            let (map, settled) = match draft.settle(self.bench.entries(), self.bench.counted()) {
+                Ok(map) => {
+                    let settled = Settled(map.shape());
+                    (map, Ok(settled))
                 }
+                Err(Refused { fault, map }) => (map, Err(fault)),
+            };
+            *beside = Beside::Map(map);
+            println!(self.rt; "settle: {}", Outcome(settled))?;
+        }
+        Ok(())
+    }
+
+    /// Makes a map a draft again.
+    fn reopen(&self, beside: &mut Beside<'_>) -> io::Result<()>
+        ensures { IsMap beside.old → IsDraft beside.new }
+    {
+        if let Beside::Map(map) = mem::replace(beside, Beside::Nothing) {
+            *beside = Beside::Draft(map.reopen());
+            println!(self.rt; "reopen: a draft again")?;
+        }
+        Ok(())
+    }
+
+    /// Plays a command on a draft.
+    fn play_on_draft<'a>(
+        &self,
+        command: OnDraft,
+        words: &mut Words<'a>,
+        beside: &mut Beside<'_>,
+    ) -> Result<(), Trouble<'a>>
+        ensures no_draft { ¬ (IsDraft beside.old) → result ≡ Err (Trouble.Line Complaint.NoDraft) }
+        ensures bad_line { OnBadLine result (beside.new ≡ beside.old) }
+    {
+        let Beside::Draft(draft) = beside else {
+            return Err(Complaint::NoDraft.into());
+        };
+        match command {
+            OnDraft::Write(record) => write_record(self.rt, record, words, draft)?,
+            OnDraft::Check => {
+                words.end()?;
+                let verdict = draft.check(self.bench.entries(), self.bench.counted());
+                tell_check(self.rt, verdict)?;
             }
-            turn => return Ok(turn),
+            OnDraft::Settle => {
+                words.end()?;
+                self.settle(beside)?;
+            }
+        }
+        Ok(())
+    }
+
+    /// Plays a command on a map.
+    fn play_on_map<'a>(
+        &self,
+        command: OnMap,
+        words: &mut Words<'a>,
+        beside: &mut Beside<'_>,
+    ) -> Result<(), Trouble<'a>>
+        ensures no_map { ¬ (IsMap beside.old) → result ≡ Err (Trouble.Line Complaint.NoMap) }
+        ensures bad_line { OnBadLine result (beside.new ≡ beside.old) }
+    {
+        let Beside::Map(map) = beside else {
+            return Err(Complaint::NoMap.into());
+        };
+        match command {
+            OnMap::Walk => tell_entry(self.rt, words, map)?,
+            OnMap::Hull => tell_hull(self.rt, words, map)?,
+            OnMap::Reopen => {
+                words.end()?;
+                self.reopen(beside)?;
+            }
+        }
+        Ok(())
+    }
+
+    /// `show`: shows the draft or the map.
+    fn play_show<'a>(&self, words: &mut Words<'a>, beside: &Beside<'_>) -> Result<(), Trouble<'a>>
+        ensures { ¬ (IsDraft beside.now) → ¬ (IsMap beside.now) → result ≡ Err (Trouble.Line Complaint.NoMap) }
+    {
+        match beside {
+            Beside::Nothing => return Err(Complaint::NoMap.into()),
+            Beside::Draft(draft) => {
+                words.end()?;
+                show(self.rt, draft)?;
+            }
+            Beside::Map(map) => {
+                words.end()?;
+                show(self.rt, map)?;
+            }
+        }
+        Ok(())
+    }
+
+    /// Plays a line, or tells of the new start that it asks for.
+    fn play_line<'a>(
+        &mut self,
+        line: &'a [u8],
+        beside: &mut Beside<'_>,
+    ) -> Result<Option<Start>, Trouble<'a>>
+        ensures script { self.new.script ≡ self.old.script }
+        ensures bad_line { OnBadLine result ((self.new ≡ self.old) × (beside.new ≡ beside.old)) }
+    {
+        let Some((command, mut words)) = read_line(line)? else {
+            return Ok(None);
+        };
+        let words = &mut words;
+        match command {
+            Command::Kind => {
+                let kind = words.read("kind")?;
+                words.end()?;
+                return Ok(Some(Start::Kind(kind)));
+            }
+            Command::Draft => return Ok(Some(Start::Draft(read_request(words)?))),
+            Command::OnShelf(command) => self.bench.play(command, words)?,
+            Command::OnDraft(command) => self.play_on_draft(command, words, beside)?,
+            Command::OnMap(command) => self.play_on_map(command, words, beside)?,
+            Command::Show => self.play_show(words, beside)?,
+        }
+        Ok(None)
+    }
+
+    /// Tells what is wrong with a line; the script goes on.
+    fn told(&self, played: Result<Option<Start>, Trouble<'_>>) -> io::Result<Option<Start>>
+        ensures { IfOk result (λ start. start ≡ asked played.entry) }
+    {
+        match played {
+            Ok(start) => Ok(start),
+            Err(Trouble::Line(complaint)) => {
+                println!(self.rt; "line {}: {complaint}", self.script.line())?;
+                Ok(None)
+            }
+            Err(Trouble::Outside(error)) => Err(error),
         }
     }
-    Ok(Turn::Stay)
-}
 
-/// Plays lines without a draft, up to a new start or the end.
-fn play_bare<E: Written>(
-    rt: &HostRuntime,
-    script: &mut Script,
-    shelf: &mut Vec<E>,
-    count: &mut Option<usize>,
-) -> io::Result<Turn>
-    ensures { MatchResult result (λ turn. Left turn script.old script.new) (λ _. bytes script.new ≤ bytes script.old) }
-{
-    while let Some(line) = script.next_line() {
-        let number = script.line();
-        match told(rt, number, play_line(rt, line, shelf, count))? {
-            Turn::Stay | Turn::Settle | Turn::Reopen => {}
-            turn => return Ok(turn),
+    /// Plays lines over the shelf and what lies beside it, up to a new start or the end.
+    fn play_lines(&mut self, beside: &mut Beside<'_>) -> io::Result<Option<Start>>
+        ensures { MatchResult result (λ start. Left start self.old.script self.new.script) (λ _. bytes self.new.script ≤ bytes self.old.script) }
+    {
+        while let Some(line) = self.script.next_line() {
+            let played = self.play_line(line, beside);
+            if let Some(start) = self.told(played)? {
+                return Ok(Some(start));
+            }
         }
+        Ok(None)
     }
-    Ok(Turn::Stay)
-}
 
-/// Plays a draft over new memory.
-fn play_tables<E: Written>(
-    rt: &HostRuntime,
-    script: &mut Script,
-    shelf: &mut Vec<E>,
-    count: &mut Option<usize>,
-    request: Request,
-) -> io::Result<Turn>
-    ensures { MatchResult result (λ turn. Left turn script.old script.new) (λ _. bytes script.new ≤ bytes script.old) }
-{
-    let n = request.shape.n;
-    let e = request.shape.e;
-    let f = request.shape.f;
-    println!(rt; "draft: n {n} e {e} f {f}")?;
-    let mut words = vec![in rt.alloc(); NONE; request.len]?;
-    play_draft(
-        rt,
-        script,
-        shelf,
-        count,
-        words.as_mut_slice(),
-        request.shape,
-    )
-}
+    /// Plays lines with nothing beside the shelf.
+    fn play_bare(&mut self) -> io::Result<Option<Start>>
+        ensures { MatchResult result (λ start. Left start self.old.script self.new.script) (λ _. bytes self.new.script ≤ bytes self.old.script) }
+    {
+        self.play_lines(&mut Beside::Nothing)
+    }
 
-/// Plays drafts one after another, up to a line that turns to a kind or to the end.
-fn play_drafts<E: Written>(
-    rt: &HostRuntime,
-    script: &mut Script,
-    shelf: &mut Vec<E>,
-    count: &mut Option<usize>,
-    request: Request,
-) -> io::Result<Turn>
-    ensures { bytes script.new ≤ bytes script.old }
-{
-    let mut request = request;
-    loop {
-        match play_tables(rt, script, shelf, count, request)? {
-            Turn::Draft(next) => request = next,
-            turn => return Ok(turn),
+    /// Plays lines with a draft over new memory beside the shelf.
+    fn play_draft(&mut self, request: Request) -> io::Result<Option<Start>>
+        ensures { MatchResult result (λ start. Left start self.old.script self.new.script) (λ _. bytes self.new.script ≤ bytes self.old.script) }
+    {
+        println!(self.rt; "draft: {}", request.shape)?;
+        let mut words = vec![in self.rt.alloc(); NONE; request.len]?;
+        let draft = Draft::new(words.as_mut_slice(), request.shape);
+        self.play_lines(&mut Beside::Draft(draft))
+    }
+
+    /// Plays to the end, or up to a line that turns to a kind, with what is left after it.
+    fn play(mut self) -> io::Result<Option<(Kind, Script<'t>)>>
+        ensures { IfOk result (λ next. to_play next ≤ bytes self.entry.script) }
+    {
+        println!(self.rt; "kind {}: the shelf is empty", E::KIND)?;
+        let mut start = self.play_bare()?;
+        while let Some(Start::Draft(request)) = start {
+            start = self.play_draft(request)?;
         }
-    }
-}
-
-/// Plays lines over a new shelf of one kind, up to a line that turns to a kind or to the end.
-fn play_kind<E: Written>(rt: &HostRuntime, script: &mut Script) -> io::Result<Turn>
-    ensures { MatchResult result (λ turn. Left turn script.old script.new) (λ _. bytes script.new ≤ bytes script.old) }
-{
-    let kind = E::kind();
-    println!(rt; "kind {kind}: the shelf is empty")?;
-    let mut shelf: Vec<E> = Vec::new(rt.alloc());
-    let mut count = None;
-    match play_bare(rt, script, &mut shelf, &mut count)? {
-        Turn::Draft(request) => play_drafts(rt, script, &mut shelf, &mut count, request),
-        turn => Ok(turn),
+        match start {
+            Some(Start::Kind(kind)) => Ok(Some((kind, self.script))),
+            _ => Ok(None),
+        }
     }
 }
 
 /// Plays a whole script, from a shelf of points on.
 pub fn play(rt: &HostRuntime, text: &[u8]) -> io::Result<()> {
-    let mut script = Script::new(text);
-    let mut turn = Turn::Kind(Kind::Point);
-    while let Turn::Kind(kind) = turn {
-        turn = match kind {
-            Kind::Point => play_kind::<Point2>(rt, &mut script)?,
-            Kind::Preset => play_kind::<Preset>(rt, &mut script)?,
+    let mut next = Some((Kind::Point, Script::new(text)));
+    while let Some((kind, script)) = next {
+        next = match kind {
+            Kind::Point => Player::<Point2>::new(rt, script).play()?,
+            Kind::Preset => Player::<Preset>::new(rt, script).play()?,
         };
     }
     Ok(())

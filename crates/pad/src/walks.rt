@@ -1,47 +1,59 @@
 // Walks that a script asks for.
-use crate::complaint::{Complaint, Trouble};
+use crate::complaint::{Complaint, Misspelled, Trouble};
 use crate::script::Words;
 use preset_map::Map;
 use std::io;
-use walk::{NextBackFn, Walk, walk_entry, walk_hull};
+use std::str::FromStr;
+use walk::{Hull, NextBackFn, Rotation, Walk, walk_entry, walk_hull};
 
-/// From which end a walk is stepped.
+/// An end of a walk.
 #[derive(Clone, Copy)]
-enum Way {
+enum End {
     Front,
     Back,
-    Both,
+}
+
+/// The two ends from which a walk is stepped in turn.
+#[derive(Clone, Copy)]
+struct Way([End; 2]);
+
+impl FromStr for Way {
+    type Err = Misspelled;
+
+    ghost use Rattle.pad.specs.Spelling.{ReadsWay};
+
+    ghost from_str_gives = { ReadsWay };
+
+    fn from_str(word: &str) -> Result<Way, Misspelled> {
+        match word {
+            "back" => Ok(Way([End::Back, End::Back])),
+            "both" => Ok(Way([End::Front, End::Back])),
+            _ => Err(Misspelled),
+        }
+    }
 }
 
 /// The last word of a walk: nothing, `back` or `both`.
 fn read_way<'a>(words: &mut Words<'a>) -> Result<Way, Complaint<'a>> {
-    match words.next_word() {
-        None => Ok(Way::Front),
-        Some("back") => Ok(Way::Back),
-        Some("both") => Ok(Way::Both),
-        Some(word) => Err(Complaint::Unread("way to walk", word)),
-    }
+    let way = words.read_or("way to walk", Way([End::Front, End::Front]))?;
+    words.end()?;
+    Ok(way)
 }
 
-/// A step from the end that is due.
-fn step<N: NextBackFn>(walk: &mut Walk, map: &Map<'_>, way: Way, turn: u32) -> Option<u32> {
-    let front = match way {
-        Way::Front => true,
-        Way::Back => false,
-        Way::Both => turn % 2 == 0,
-    };
-    if front {
-        walk.next::<N>(map)
-    } else {
-        walk.next_back::<N>(map)
-    }
-}
-
-/// Tells the halves that a walk hands out, in order.
-fn tell<N: NextBackFn>(rt: &HostRuntime, start: Walk, map: &Map<'_>, way: Way) -> io::Result<()> {
-    let mut walk = start;
-    for turn in 0..u32::MAX {
-        match step::<N>(&mut walk, map, way, turn) {
+/// The halves that a walk hands out, in order.
+fn tell<N: NextBackFn>(
+    rt: &HostRuntime,
+    mut walk: Walk,
+    map: &Map<'_>,
+    Way(ends): Way,
+) -> io::Result<()> {
+    // No walk is as long as this bound, which shows that the loop ends.
+    for end in ends.iter().cycle().take(u32::MAX as usize) {
+        let step = match end {
+            End::Front => walk.next::<N>(map),
+            End::Back => walk.next_back::<N>(map),
+        };
+        match step {
             Some(h) => print!(rt; " {h}")?,
             None => break,
         }
@@ -50,18 +62,17 @@ fn tell<N: NextBackFn>(rt: &HostRuntime, start: Walk, map: &Map<'_>, way: Way) -
 }
 
 /// `walk K [back|both]`: the halves around an entry.
-fn tell_entry<'a>(
+pub fn tell_entry<'a>(
     rt: &HostRuntime,
     words: &mut Words<'a>,
     map: &Map<'_>,
 ) -> Result<(), Trouble<'a>> {
-    let v = words.number::<u32>("entry number")?;
+    let v = words.read::<u32>("entry number")?;
     let way = read_way(words)?;
-    words.end()?;
     match walk_entry(map, v) {
         Ok(start) => {
             print!(rt; "walk {v}:")?;
-            tell::<walk::Rotation>(rt, start, map, way)?;
+            tell::<Rotation>(rt, start, map, way)?;
         }
         Err(refused) => println!(rt; "walk {v}: refused, {refused}")?,
     }
@@ -69,29 +80,13 @@ fn tell_entry<'a>(
 }
 
 /// `hull [back|both]`: the halves along the hull.
-fn tell_hull<'a>(
+pub fn tell_hull<'a>(
     rt: &HostRuntime,
     words: &mut Words<'a>,
     map: &Map<'_>,
 ) -> Result<(), Trouble<'a>> {
     let way = read_way(words)?;
-    words.end()?;
     print!(rt; "hull:")?;
-    tell::<walk::Hull>(rt, walk_hull(map), map, way)?;
+    tell::<Hull>(rt, walk_hull(map), map, way)?;
     Ok(())
-}
-
-/// Plays a walk; tells whether it was one.
-pub fn play_walk<'a>(
-    rt: &HostRuntime,
-    command: &'a str,
-    words: &mut Words<'a>,
-    map: &Map<'_>,
-) -> Result<bool, Trouble<'a>> {
-    match command {
-        "walk" => tell_entry(rt, words, map)?,
-        "hull" => tell_hull(rt, words, map)?,
-        _ => return Ok(false),
-    }
-    Ok(true)
 }

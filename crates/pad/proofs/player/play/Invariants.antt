@@ -2,5 +2,5 @@
 use Rattle.pad.specs.Turns.{to_play}
 use Rattle.pad.proofs.player.play.Given as goal
 
-abbrev pub decreases-loop-turn : goal.decreases-loop-turn
-decreases-loop-turn l = to_play l.turn l.script
+abbrev pub decreases-loop-next : goal.decreases-loop-next
+decreases-loop-next l = to_play l.next
