@@ -9,4 +9,5 @@ pub mod Law
 pub mod Kept
 pub mod Shelf
 pub mod Views
+pub mod Sight
 pub mod Worked

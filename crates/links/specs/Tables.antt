@@ -1,6 +1,6 @@
 -- The reading of a slice of numbers as links: three numbers an entry (x, y, out_edge), eight an edge (next, prev, face, origin
 -- of its normalized half and then of the other), one a face, in this order. What lies past its table reads none.
-use Rattle.std.specs.Prelude.{ℕ, ◌+◌, ◌*◌, Bool, true, false, cond, ◌&&◌, List, length, nat_lt, slice_index}
+use Rattle.std.specs.Prelude.{ℕ, ◌+◌, ◌*◌, Bool, true, false, cond, ◌&&◌, List, length, Some, None, Option, nat_lt, slice_index}
 use Rattle.links.specs.Links.{Links, none}
 use Rattle.links.specs.declared.shape.Shape.{Shape}
 
@@ -25,6 +25,11 @@ cell false w i = none
 -- the number at i, if it belongs to its table and lies in the slice
 abbrev pub looked : List ℕ → Bool → ℕ → ℕ
 looked w b i = cond (b && nat_lt i (length w)) (slice_index w i) none
+
+-- the number at a place, if there is one and it lies in the slice
+abbrev pub looked_at : List ℕ → Option ℕ → ℕ
+looked_at w None = none
+looked_at w (Some i) = looked w true i
 
 module _ (w : List ℕ) (s : Shape) where
   abbrev pub of_entry : ℕ → ℕ → ℕ

@@ -4,6 +4,7 @@ ghost use Rattle.std.specs.Option.{option_or};
 ghost use Rattle.links.specs.Shelf.{answer, FitsShelf, seen, spot_at};
 ghost use Rattle.links.specs.Tables.{size};
 ghost use Rattle.links.specs.Verdict.{link_rules, place_rules, rule2, told};
+ghost use Rattle.links.specs.Sight.{links_of};
 ghost use Rattle.links.specs.Views.{seen_in};
 
 use crate::fault::CheckFault;
@@ -15,7 +16,7 @@ use entry::HasPosition;
 
 /// The rules on places.
 fn check_places<E: HasPosition>(m: &Seen<'_, E>) -> Result<(), CheckFault>
-    ensures { result ≡ told (place_rules (seen_in E.Scalar.reading E.across E.along m.now.tables m.now.entries.now)) }
+    ensures { result ≡ told (place_rules (links_of m.now)) }
 {
     rule_5(m)?;
     rule_6(m)?;

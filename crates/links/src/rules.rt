@@ -7,7 +7,8 @@ ghost use Rattle.links.specs.Shelf.{spot_at};
 ghost use Rattle.links.specs.declared.fault.Site.TheVariants.{Edge, Entry, Face, Half};
 ghost use Rattle.links.specs.Tests.{along, around, half_named, implies, joined, parted, ended, shared, single, twins, undone};
 ghost use Rattle.links.specs.Verdict.{broken, each, once, rule1, rule2, rule3, rule4, rule5, rule6, rule7, rule8, told, unplaced};
-ghost use Rattle.links.specs.Views.{held_in, seen_in};
+ghost use Rattle.links.specs.Sight.{links_of};
+ghost use Rattle.links.specs.Views.{held_in};
 
 use crate::fault::{CheckFault, Site};
 use crate::half::rev;
@@ -186,7 +187,7 @@ pub fn rule_4(t: Tables<'_>) -> Result<(), CheckFault>
 
 /// Inner faces are triangles that turn left.
 pub fn rule_5<E: HasPosition>(m: &Seen<'_, E>) -> Result<(), CheckFault>
-    ensures { result ≡ told (rule5 (seen_in E.Scalar.reading E.across E.along m.now.tables m.now.entries.now)) }
+    ensures { result ≡ told (rule5 (links_of m.now)) }
 {
     let stray = first_failing(m.tables().shape().f, |k| m.is_turned(k));
     refuse(5, 1, stray.map(Site::Face))
@@ -194,7 +195,7 @@ pub fn rule_5<E: HasPosition>(m: &Seen<'_, E>) -> Result<(), CheckFault>
 
 /// Edges join different places, once, with no entry between.
 pub fn rule_6<E: HasPosition>(m: &Seen<'_, E>) -> Result<(), CheckFault>
-    ensures { result ≡ told (rule6 (seen_in E.Scalar.reading E.across E.along m.now.tables m.now.entries.now)) }
+    ensures { result ≡ told (rule6 (links_of m.now)) }
 {
     let e = m.tables().shape().e;
     let stray = first_failing(e, |k| m.is_apart(k));
@@ -207,7 +208,7 @@ pub fn rule_6<E: HasPosition>(m: &Seen<'_, E>) -> Result<(), CheckFault>
 
 /// No entry is outside the hull.
 pub fn rule_7<E: HasPosition>(m: &Seen<'_, E>) -> Result<(), CheckFault>
-    ensures { result ≡ told (rule7 (seen_in E.Scalar.reading E.across E.along m.now.tables m.now.entries.now)) }
+    ensures { result ≡ told (rule7 (links_of m.now)) }
 {
     let outside = first_pair(m.tables().halves(), |h| m.first_left(h));
     refuse(7, 1, outside.map(|(h, v)| Site::HalfEntry(h, v)))
@@ -215,7 +216,7 @@ pub fn rule_7<E: HasPosition>(m: &Seen<'_, E>) -> Result<(), CheckFault>
 
 /// No entry is inside the circle of a face.
 pub fn rule_8<E: HasPosition>(m: &Seen<'_, E>) -> Result<(), CheckFault>
-    ensures { result ≡ told (rule8 (seen_in E.Scalar.reading E.across E.along m.now.tables m.now.entries.now)) }
+    ensures { result ≡ told (rule8 (links_of m.now)) }
 {
     let inside = first_pair(m.tables().shape().f, |k| m.first_inside(k));
     refuse(8, 1, inside.map(|(k, v)| Site::FaceEntry(k, v)))

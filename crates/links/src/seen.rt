@@ -26,7 +26,7 @@ impl<'a, E: HasPosition> Seen<'a, E> {
     ghost use Rattle.links.specs.Shelf.{spot_at};
     ghost use Rattle.links.specs.Tests.{apart, clear, empty, hulled, single, turned, twins};
     ghost use Rattle.links.specs.Verdict.{failing, rule2};
-    ghost use Rattle.links.specs.Views.{seen_in};
+    ghost use Rattle.links.specs.Sight.{links_of};
 
     pub fn new(tables: Tables<'a>, entries: &'a [E]) -> Seen<'a, E>
         requires counted { length entries.now ≡ tables.shape.n }
@@ -45,7 +45,7 @@ impl<'a, E: HasPosition> Seen<'a, E> {
 
     /// The place of entry v; past the end (0, 0).
     fn spot(&self, v: u32) -> Place
-        ensures { point result ≡ place (seen_in E.Scalar.reading E.across E.along self.now.tables self.now.entries.now) v }
+        ensures { point result ≡ place (links_of self.now) v }
     {
         let Some(entry) = self.entries.get(v as usize) else {
             return Place::ORIGIN;
@@ -55,8 +55,8 @@ impl<'a, E: HasPosition> Seen<'a, E> {
 
     /// The places of an edge's ends.
     fn ends(&self, k: u32) -> (Place, Place)
-        ensures first { point result.0 ≡ end0 (seen_in E.Scalar.reading E.across E.along self.now.tables self.now.entries.now) k }
-        ensures second { point result.1 ≡ end1 (seen_in E.Scalar.reading E.across E.along self.now.tables self.now.entries.now) k }
+        ensures first { point result.0 ≡ end0 (links_of self.now) k }
+        ensures second { point result.1 ≡ end1 (links_of self.now) k }
     {
         let (from, to) = self.tables.ends(k);
         (self.spot(from), self.spot(to))
@@ -64,9 +64,9 @@ impl<'a, E: HasPosition> Seen<'a, E> {
 
     /// The places of the origins of h and of the two halves after it.
     fn corners(&self, h: u32) -> (Place, Place, Place)
-        ensures first { point result.0 ≡ corner0 (seen_in E.Scalar.reading E.across E.along self.now.tables self.now.entries.now) h }
-        ensures second { point result.1 ≡ corner1 (seen_in E.Scalar.reading E.across E.along self.now.tables self.now.entries.now) h }
-        ensures third { point result.2 ≡ corner2 (seen_in E.Scalar.reading E.across E.along self.now.tables self.now.entries.now) h }
+        ensures first { point result.0 ≡ corner0 (links_of self.now) h }
+        ensures second { point result.1 ≡ corner1 (links_of self.now) h }
+        ensures third { point result.2 ≡ corner2 (links_of self.now) h }
     {
         let t = self.tables;
         let i = t.next(h);
@@ -80,7 +80,7 @@ impl<'a, E: HasPosition> Seen<'a, E> {
 
     /// Whether an inner face is a triangle that turns left.
     pub fn is_turned(&self, k: u32) -> bool
-        ensures { result ≡ turned (seen_in E.Scalar.reading E.across E.along self.now.tables self.now.entries.now) k }
+        ensures { result ≡ turned (links_of self.now) k }
     {
         if k == 0 {
             return true;
@@ -93,7 +93,7 @@ impl<'a, E: HasPosition> Seen<'a, E> {
 
     /// Whether an edge's ends have different places.
     pub fn is_apart(&self, k: u32) -> bool
-        ensures { result ≡ apart (seen_in E.Scalar.reading E.across E.along self.now.tables self.now.entries.now) k }
+        ensures { result ≡ apart (links_of self.now) k }
     {
         let (a, b) = self.ends(k);
         a != b
@@ -101,7 +101,7 @@ impl<'a, E: HasPosition> Seen<'a, E> {
 
     /// Whether two edges share both ends.
     fn are_twins(&self, k: u32, l: u32) -> bool
-        ensures { result ≡ twins (seen_in E.Scalar.reading E.across E.along self.now.tables self.now.entries.now) k l }
+        ensures { result ≡ twins (links_of self.now) k l }
     {
         let (a, b) = self.tables.ends(k);
         let (c, d) = self.tables.ends(l);
@@ -111,7 +111,7 @@ impl<'a, E: HasPosition> Seen<'a, E> {
     /// The lowest edge after k that shares both ends with it.
     #[inline(never)]
     pub fn first_twin(&self, k: u32) -> Option<u32>
-        ensures { result ≡ failing self.now.tables.shape.e (single (seen_in E.Scalar.reading E.across E.along self.now.tables self.now.entries.now) k) }
+        ensures { result ≡ failing self.now.tables.shape.e (single (links_of self.now) k) }
     {
         let after = k.saturating_add(1);
         (after..self.tables.shape().e).find(|l| self.are_twins(k, *l))
@@ -120,7 +120,7 @@ impl<'a, E: HasPosition> Seen<'a, E> {
     /// The lowest entry that lies on an edge's segment and is no end of it.
     #[inline(never)]
     pub fn first_on(&self, k: u32) -> Option<u32>
-        ensures { result ≡ failing self.now.tables.shape.n (clear (seen_in E.Scalar.reading E.across E.along self.now.tables self.now.entries.now) k) }
+        ensures { result ≡ failing self.now.tables.shape.n (clear (links_of self.now) k) }
     {
         let (from, to) = self.tables.ends(k);
         let (a, b) = self.ends(k);
@@ -132,7 +132,7 @@ impl<'a, E: HasPosition> Seen<'a, E> {
     /// The lowest entry strictly left of a half, if that is in face 0.
     #[inline(never)]
     pub fn first_left(&self, h: u32) -> Option<u32>
-        ensures { result ≡ failing self.now.tables.shape.n (hulled (seen_in E.Scalar.reading E.across E.along self.now.tables self.now.entries.now) h) }
+        ensures { result ≡ failing self.now.tables.shape.n (hulled (links_of self.now) h) }
     {
         let t = self.tables;
         if t.face(h) != 0 {
@@ -146,7 +146,7 @@ impl<'a, E: HasPosition> Seen<'a, E> {
     /// The lowest entry strictly inside the circle of a face, if that is an inner one.
     #[inline(never)]
     pub fn first_inside(&self, k: u32) -> Option<u32>
-        ensures { result ≡ failing self.now.tables.shape.n (empty (seen_in E.Scalar.reading E.across E.along self.now.tables self.now.entries.now) k) }
+        ensures { result ≡ failing self.now.tables.shape.n (empty (links_of self.now) k) }
     {
         if k == 0 {
             return None;

@@ -1,20 +1,17 @@
 //! The link tables, lent to be read.
 ghost use Rattle.std.specs.Prelude.{◌≡◌, ◌≤◌, length};
-ghost use Rattle.links.specs.Tables.{looked, size};
+ghost use Rattle.links.specs.Tables.{looked_at, size};
 
 use crate::shape::Shape;
 
-/// A link that leads nowhere: the number that the tables hold in its place.
+/// A link that leads nowhere. It is a number, and no option, since the tables hold it: memory is lent, and as it stands.
 pub const NONE: u32 = 4294967295;
 
-/// The number at a place of the slice, if it belongs to its table; else none.
-pub fn look(words: &[u32], in_table: bool, at: usize) -> u32
-    ensures { result ≡ looked words.now in_table at }
+/// The number at a place of the slice; none where there is no such place.
+pub fn look(words: &[u32], at: Option<usize>) -> u32
+    ensures { result ≡ looked_at words.now at }
 {
-    match words.get(at) {
-        Some(word) if in_table => *word,
-        _ => NONE,
-    }
+    at.and_then(|at| words.get(at)).copied().unwrap_or(NONE)
 }
 
 /// A slice that holds the tables of a shape whose counts a map may have.

@@ -36,7 +36,8 @@ pub trait Records {
         ensures { result ≡ of_entry (shape self.now) (number self.now) field v }
     {
         let s = self.shape();
-        look(self.words(), v < s.entries, 3 * v as usize + field as usize)
+        let at = 3 * v as usize + field as usize;
+        look(self.words(), (v < s.entries).then_some(at))
     }
 
     /// A link of a half: `next`, `prev`, `face` and `origin` are 0, 1, 2 and 3; any number may be asked for, as at an entry.
@@ -44,11 +45,10 @@ pub trait Records {
         ensures { result ≡ of_half (shape self.now) (number self.now) field h }
     {
         let s = self.shape();
-        let start = 3 * s.entries as usize + 4 * h as usize;
+        let at = 3 * s.entries as usize + 4 * h as usize + field as usize;
         look(
             self.words(),
-            (h as u64) < 2 * s.edges as u64,
-            start + field as usize,
+            ((h as u64) < 2 * s.edges as u64).then_some(at),
         )
     }
 
@@ -58,12 +58,8 @@ pub trait Records {
         ensures link { result ≡ (links self.now).adj k }
     {
         let s = self.shape();
-        let edges = 8 * s.edges as usize;
-        look(
-            self.words(),
-            k < s.faces,
-            3 * s.entries as usize + edges + k as usize,
-        )
+        let at = 3 * s.entries as usize + 8 * s.edges as usize + k as usize;
+        look(self.words(), (k < s.faces).then_some(at))
     }
 
     /// The x of entry v.

@@ -2,7 +2,7 @@ use Rattle.std.proofs.Common.{rules, ◌≡◌, ◌+◌, ◌≤◌, ℕ, ◌<◌
 use Rattle.std.proofs.lemmas.Iterator.{first_from_Range}
 use Rattle.links.specs.Tests.{single, twins}
 use Rattle.links.specs.Verdict.{failing}
-use Rattle.links.specs.Views.{seen_in}
+use Rattle.links.specs.Sight.{links_of}
 use Rattle.links.proofs.First.{failing_from, single_early, single_now}
 use Rattle.links.proofs.seen.Seen.first_twin.Goals as goal
 
@@ -15,7 +15,7 @@ late k l a e q b d f = omega (arith, q, b, d, f)
 
 pub returns : goal.returns
 returns g c =
-    let m = seen_in g.E.Scalar.GridScalar.reading g.E.HasPosition.across g.E.HasPosition.along c.args.self.now.tables c.args.self.now.entries.now in
+    let m = links_of c.args.self.now in
     let k = c.args.k in
     let after = c.saturating_add-after.result in
     let is = c.saturating_add-after.ensures in
