@@ -79,7 +79,7 @@ fn is_reached<R: Ring>(t: Tables<'_>, bound: u32, s: u32, h: u32) -> bool
     ensures { result ≡ reaches (R.Ring.step (held_in t.entry)) bound s h }
 {
     let mut at = s;
-    for j in 0..bound {
+    for _ in 0..bound {
         if at == h {
             return true;
         }

@@ -3,15 +3,15 @@ use Rattle.links.specs.Views.{held_in}
 use Rattle.links.proofs.First.{reaches_yes, reaches_no}
 use Rattle.links.proofs.rings.is_reached.Goals as goal
 
-pub loop-j-preserved : goal.loop-j-preserved
-loop-j-preserved g c =
-    let was = c.loop-j.invariant.0 in
-    (rw add-one (ap (g.R.Ring.step (held_in c.args.t)) was ∙ sym c.step-at.ensures), below_more _ _ c.loop-j.invariant.1 (λ e. c.if-at-h.false (sym was ∙ e)))
+pub loop-preserved : goal.loop-preserved
+loop-preserved g c =
+    let was = c.loop.invariant.0 in
+    (rw add-one (ap (g.R.Ring.step (held_in c.args.t)) was ∙ sym c.step-at.ensures), below_more _ _ c.loop.invariant.1 (λ e. c.if-at-h.false (sym was ∙ e)))
 
 pub returns-then-at-h : goal.returns-then-at-h
 returns-then-at-h g c =
-    sym (reaches_yes (g.R.Ring.step (held_in c.args.t)) c.args.bound c.args.s c.args.h c.loop-j.j c.loop-j-test.true (c.loop-j.invariant.0 ∙ c.if-at-h.true))
+    sym (reaches_yes (g.R.Ring.step (held_in c.args.t)) c.args.bound c.args.s c.args.h c.loop.counter c.loop-test.true (c.loop.invariant.0 ∙ c.if-at-h.true))
 
 pub returns : goal.returns
 returns g c =
-    sym (reaches_no (g.R.Ring.step (held_in c.args.t)) c.args.bound c.args.s c.args.h (λ i l. c.loop-j.invariant.1 i (lt_of_lt_of_le l c.loop-j-test.false)))
+    sym (reaches_no (g.R.Ring.step (held_in c.args.t)) c.args.bound c.args.s c.args.h (λ i l. c.loop.invariant.1 i (lt_of_lt_of_le l c.loop-test.false)))
