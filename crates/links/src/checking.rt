@@ -1,4 +1,4 @@
-//! The check of a draft's tables against a shelf.
+//! The check of a draft's tables against a shelf. Slice and count of a shelf are the host's, lent to each call: they come as two parameters.
 ghost use Rattle.std.specs.Prelude.{◌≡◌, ◌≤◌, ◌↔◌, None, length, take, Ok};
 ghost use Rattle.std.specs.Option.{option_or};
 ghost use Rattle.links.specs.Shelf.{answer, FitsShelf, seen, spot_at};

@@ -23,6 +23,7 @@ pub enum Site {
 }
 
 /// The first clause that fails, at the lowest record.
+// Rule and clause are numbers, and no enum: they are the product's own numbers, by which a host knows them.
 #[derive(Clone, Copy)]
 pub struct CheckFault {
     pub rule: u8,
@@ -31,6 +32,7 @@ pub struct CheckFault {
 }
 
 /// A fault in numbers: none is kind 0, an entry 1, a half 2, an edge 3, a face 4; what is not named is 0.
+// All in numbers, for a host that has none of these types.
 #[derive(Clone, Copy)]
 pub struct FaultNumbers {
     pub rule: u8,

@@ -10,6 +10,7 @@ use crate::half::rev;
 use crate::search::first_failing;
 use crate::tables::{NONE, Tables};
 
+// Crate walk has the same steps as a trait with laws. Here the links need not be sound, so that no law holds.
 /// Halves that belong together: whose they are, the step from one to the next, and where the cycle starts.
 pub trait Ring {
     ghost step: { Links → ℕ → ℕ };

@@ -28,12 +28,8 @@ impl Shape {
     pub fn emptied(self) -> Shape
         ensures { result ≡ empty_of self }
     {
-        Shape {
-            n: 0,
-            e: 0,
-            f: 1,
-            ..self
-        }
+        let (n, e, f) = (0, 0, 1);
+        Shape { n, e, f, ..self }
     }
 }
 

@@ -55,6 +55,7 @@ impl<'r, 't, E: Written> Player<'r, 't, E> {
     }
 
     /// Settles a draft and tells the outcome; there is a map after either.
+    // What lies beside is changed in place: taken by value and given back it gets no proof.
     fn settle(&self, beside: &mut Beside<'_>) -> io::Result<()>
         ensures { IsDraft beside.old → IsMap beside.new }
     {
@@ -185,6 +186,7 @@ impl<'r, 't, E: Written> Player<'r, 't, E> {
     fn told(&self, played: Result<Option<Start>, Trouble<'_>>) -> io::Result<Option<Start>>
         ensures { IfOk result (λ start. start ≡ asked played.entry) }
     {
+        // A match: of the two kinds of trouble one is told here, and one goes on.
         match played {
             Ok(start) => Ok(start),
             Err(Trouble::Line(complaint)) => {

@@ -132,6 +132,7 @@ impl<'a> Words<'a> {
         T::Err: Drop,
         ensures { ReadsOr T.from_str_gives what.entry other self.old result self.new }
     {
+        // A match: `map_or(Ok(other), ..)` is no plainer.
         match self.next_word() {
             Some(word) => read(word, what),
             None => Ok(other),
@@ -142,6 +143,7 @@ impl<'a> Words<'a> {
     pub fn end(&mut self) -> Result<(), Complaint<'a>>
         ensures { EndsLine self.old result self.new }
     {
+        // A match: `map_or(Ok(()), ..)` is no plainer.
         match self.next_word() {
             Some(word) => Err(Complaint::Extra(word)),
             None => Ok(()),
