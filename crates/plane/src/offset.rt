@@ -15,6 +15,7 @@ pub(crate) struct Offset {
 
 impl Offset {
     /// The way from `start` to `end`.
+    // No `Sub` of places: its `Output` would have to be as public as `Place`.
     pub(crate) fn between(start: Place, end: Place) -> Offset
         ensures across { result.x ≡ pos end.x -ℤ pos start.x }
         ensures along { result.y ≡ pos end.y -ℤ pos start.y }

@@ -21,6 +21,7 @@ impl Place {
         ensures accepted { is_some result ≡ (nat_le x 16383 && nat_le y 16383) }
         ensures kept { IfSome result (λ p. (p.x ≡ x) × (p.y ≡ y)) }
     {
+        // Not by `then`: its closure would need a clause that repeats both bounds.
         if x <= 16383 && y <= 16383 {
             Some(Place { x, y })
         } else {

@@ -1,5 +1,5 @@
 -- Writes of a draft: whether a record lies in its table and in the slice, and the slice after the write.
-use Rattle.std.specs.Prelude.{ℕ, ◌+◌, ◌*◌, Bool, true, false, ◌&&◌, List, length, Ok, Err, Result, nat_lt, slice_set}
+use Rattle.std.specs.Prelude.{ℕ, ◌+◌, ◌*◌, Bool, true, false, ◌&&◌, List, [], ◌∷◌, length, Ok, Err, Result, nat_lt, slice_set}
 use Rattle.entry.specs.declared.fault.NoRecord.{NoRecord}
 use Rattle.links.specs.declared.shape.Shape.{Shape}
 use Rattle.links.specs.Tables.{entry_at, half_at, face_at}
@@ -32,3 +32,8 @@ with_half w s h next prev face origin = slice_set (slice_set (slice_set (slice_s
 
 abbrev pub with_face : List ℕ → Shape → ℕ → ℕ → List ℕ
 with_face w s k h = slice_set w (face_at s k) h
+
+-- the values one after another, from the number at on
+abbrev pub with_values : List ℕ → ℕ → List ℕ → List ℕ
+with_values w at [] = w
+with_values w at (v ∷ vs) = with_values (slice_set w at v) (at + 1) vs

@@ -1,6 +1,6 @@
 //! Filling a draft, one record at a time.
-ghost use Rattle.std.specs.Prelude.{◌≡◌};
-ghost use Rattle.preset_map.specs.Filling.{is_half_in, is_entry_in, is_face_in, with_half, with_out, with_face, wrote, asked};
+ghost use Rattle.std.specs.Prelude.{◌≡◌, ◌+◌, ◌≤◌, ◌&&◌, length, nat_le};
+ghost use Rattle.preset_map.specs.Filling.{is_half_in, is_entry_in, is_face_in, with_half, with_out, with_face, with_values, wrote, asked};
 
 use crate::draft::{Draft, HalfLinks};
 use entry::NoRecord;
@@ -21,12 +21,7 @@ impl<'a> Draft<'a> {
         ensures words { self.new.words.now ≡ wrote result (with_out self.old.words.now v out_edge) self.old.words.now }
         ensures shape { self.new.shape ≡ self.old.shape }
     {
-        let at = 3 * v as usize;
-        if v >= self.shape.entries || at + 2 >= self.words.len() {
-            return Err(NoRecord { number: v });
-        }
-        self.words[at + 2] = out_edge;
-        Ok(())
+        self.write(v, v < self.shape.entries, 3 * v as usize + 2, [out_edge])
     }
 
     /// Writes the four links of half h.
@@ -35,15 +30,14 @@ impl<'a> Draft<'a> {
         ensures words { self.new.words.now ≡ wrote result (with_half self.old.words.now self.old.shape h links.next links.prev links.face links.origin) self.old.words.now }
         ensures shape { self.new.shape ≡ self.old.shape }
     {
+        let in_table = (h as usize) < 2 * self.shape.edges as usize;
         let at = 3 * self.shape.entries as usize + 4 * h as usize;
-        if h as usize >= 2 * self.shape.edges as usize || at + 3 >= self.words.len() {
-            return Err(NoRecord { number: h });
-        }
-        self.words[at] = links.next;
-        self.words[at + 1] = links.prev;
-        self.words[at + 2] = links.face;
-        self.words[at + 3] = links.origin;
-        Ok(())
+        self.write(
+            h,
+            in_table,
+            at,
+            [links.next, links.prev, links.face, links.origin],
+        )
     }
 
     /// Writes the `adjacent_edge` of face k.
@@ -54,10 +48,27 @@ impl<'a> Draft<'a> {
     {
         let edges = 8 * self.shape.edges as usize;
         let at = 3 * self.shape.entries as usize + edges + k as usize;
-        if k >= self.shape.faces || at >= self.words.len() {
-            return Err(NoRecord { number: k });
+        self.write(k, k < self.shape.faces, at, [adjacent_edge])
+    }
+
+    // Writes the values from `at` on, if their record is in its table and they lie in the slice.
+    #[tactic(auto, using(crate::proofs::Writes::part_is_with_values))]
+    fn write<const N: usize>(
+        &mut self,
+        number: u32,
+        in_table: bool,
+        at: usize,
+        values: [u32; N],
+    ) -> Result<(), NoRecord<u32>>
+        requires { at + N ≤ usize.MAX }
+        ensures outcome { result ≡ asked (in_table && nat_le (at + N) (length self.old.words.now)) number }
+        ensures words { self.new.words.now ≡ wrote result (with_values self.old.words.now at values.entry) self.old.words.now }
+        ensures shape { self.new.shape ≡ self.old.shape }
+    {
+        if !in_table || at + N > self.words.len() {
+            return Err(NoRecord { number });
         }
-        self.words[at] = adjacent_edge;
+        self.words[at..at + N].copy_from_slice(&values);
         Ok(())
     }
 }
