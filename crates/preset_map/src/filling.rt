@@ -52,6 +52,7 @@ impl<'a> Draft<'a> {
     }
 
     // Writes the values from `at` on, if their record is in its table and they lie in the slice.
+    // A flag beside the place, and no option of it: each clause would have to be said twice, with a place and without one.
     #[tactic(auto, using(crate::proofs::Writes::part_is_with_values))]
     fn write<const N: usize>(
         &mut self,
