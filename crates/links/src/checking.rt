@@ -36,6 +36,7 @@ fn check_links<E: HasPosition>(t: Tables<'_>, entries: &[E]) -> Result<(), Check
 }
 
 /// The rules after the first, once there is room.
+// What rule 1 found is asked here, just before the types that keep it are made.
 fn check_entries<E: HasPosition>(
     words: &[u32],
     shape: Shape,

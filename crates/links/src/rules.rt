@@ -19,7 +19,7 @@ use crate::shape::Shape;
 use crate::tables::Tables;
 use entry::{HasPosition, place};
 
-/// The fault of a clause that fails at a record, if there is one.
+/// The fault of a clause that fails at a record, if there is one. Rule and clause are the product's own numbers.
 fn refuse(rule: u8, clause: u8, at: Option<Site>) -> Result<(), CheckFault>
     ensures { result ≡ told (option_map (broken rule clause) at) }
 {
@@ -91,6 +91,7 @@ pub fn rule_3(t: Tables<'_>) -> Result<(), CheckFault>
     refuse(3, 2, stray.map(Site::Face))
 }
 
+// One function for a clause of rule 4: with all of them in one function its proof did not close.
 /// `next` and `prev` undo each other.
 fn try_undone(t: Tables<'_>) -> Result<(), CheckFault>
     ensures { result ≡ told (each 4 1 Half (half_count (held_in t.entry)) (undone (held_in t.entry))) }
@@ -159,18 +160,6 @@ fn try_ended(t: Tables<'_>) -> Result<(), CheckFault>
     refuse(4, 6, stray.map(Site::Edge))
 }
 
-/// Whether the counts are those of a map in the plane.
-fn is_euler(s: Shape) -> bool
-    requires { (s.n ≤ 4096) × ((s.e ≤ 12288) × (s.f ≤ 8192)) }
-    ensures { result ≡ (implies (s.n == 0) (s.e == 0 && s.f == 1) && implies (not (s.n == 0)) (s.n + s.f == s.e + 2)) }
-{
-    if s.n == 0 {
-        s.e == 0 && s.f == 1
-    } else {
-        s.n + s.f == s.e + 2
-    }
-}
-
 /// Links fit together.
 pub fn rule_4(t: Tables<'_>) -> Result<(), CheckFault>
     ensures { result ≡ told (rule4 (held_in t.entry)) }
@@ -182,7 +171,7 @@ pub fn rule_4(t: Tables<'_>) -> Result<(), CheckFault>
     try_along(t)?;
     try_parted(t)?;
     try_ended(t)?;
-    refuse_unless(4, 7, is_euler(t.shape()))
+    refuse_unless(4, 7, t.is_euler())
 }
 
 /// Inner faces are triangles that turn left.

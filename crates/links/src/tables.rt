@@ -15,6 +15,7 @@ pub fn look(words: &[u32], at: Option<usize>) -> u32
 }
 
 /// A slice that holds the tables of a shape whose counts a map may have.
+// Slice and shape: the memory is the host's, and there is no heap.
 #[derive(Clone, Copy)]
 pub struct Tables<'a> {
     words: &'a [u32],
@@ -27,7 +28,7 @@ impl<'a> Tables<'a> {
     ghost use Rattle.std.specs.Prelude.{◌≡◌, ◌+◌, ◌*◌, ◌<◌, ◌≤◌, length};
     ghost use Rattle.links.specs.Links.{halves as half_count};
     ghost use Rattle.links.specs.Tables.{of_half};
-    ghost use Rattle.links.specs.Tests.{named, rooted};
+    ghost use Rattle.links.specs.Tests.{euler, named, rooted};
     ghost use Rattle.links.specs.Views.{held_in};
 
     /// The tables, if the slice holds them and the counts are small enough.
@@ -53,7 +54,7 @@ impl<'a> Tables<'a> {
         2 * self.shape.e
     }
 
-    /// A number of a half's record, by its place there; none past the table.
+    /// A number of a half's record, by its place among the four there; none past the table.
     fn half(self, field: usize, h: u32) -> u32
         requires { field < 4 }
         ensures { result ≡ of_half self.entry.words.now self.entry.shape field h }
@@ -110,7 +111,7 @@ impl<'a> Tables<'a> {
         }
     }
 
-    /// A number of both halves of an edge, by its place in a half's record; none past the table.
+    /// A number of both halves of an edge, by its place among the four of a half; none past the table.
     fn edge(self, field: usize, k: u32) -> (u32, u32)
         requires { field < 4 }
         ensures first { result.0 ≡ of_half self.entry.words.now self.entry.shape field (2 * k) }
@@ -138,6 +139,18 @@ impl<'a> Tables<'a> {
         ensures second { result.1 ≡ (held_in self.entry).face (2 * k + 1) }
     {
         self.edge(2, k)
+    }
+
+    /// Whether the counts are those of a map in the plane.
+    pub fn is_euler(self) -> bool
+        ensures { result ≡ euler (held_in self.entry) }
+    {
+        let s = self.shape;
+        if s.n == 0 {
+            s.e == 0 && s.f == 1
+        } else {
+            s.n + s.f == s.e + 2
+        }
     }
 
     /// Whether a link that may be none names an existing half.

@@ -132,7 +132,7 @@ impl<'a> Words<'a> {
         T::Err: Drop,
         ensures { ReadsOr T.from_str_gives what.entry other self.old result self.new }
     {
-        // A match: `map_or(Ok(other), ..)` is no plainer.
+        // A match: in `map_or` the closure would need the contract of `read` once more.
         match self.next_word() {
             Some(word) => read(word, what),
             None => Ok(other),
@@ -143,11 +143,8 @@ impl<'a> Words<'a> {
     pub fn end(&mut self) -> Result<(), Complaint<'a>>
         ensures { EndsLine self.old result self.new }
     {
-        // A match: `map_or(Ok(()), ..)` is no plainer.
-        match self.next_word() {
-            Some(word) => Err(Complaint::Extra(word)),
-            None => Ok(()),
-        }
+        self.next_word()
+            .map_or(Ok(()), |word| Err(Complaint::Extra(word)))
     }
 }
 

@@ -49,8 +49,5 @@ pub fn compare_places<E: HasPosition>(
     if counted != map.shape().n as usize {
         return Err(Differs::Count(counted));
     }
-    if let Some(v) = lowest_apart(map, shelf) {
-        return Err(Differs::Place(v));
-    }
-    Ok(())
+    lowest_apart(map, shelf).map_or(Ok(()), |v| Err(Differs::Place(v)))
 }

@@ -9,6 +9,7 @@ ghost use Rattle.planar.proofs.Views.{ranges_of, weave_of};
 use links::rev;
 use preset_map::{Map, Records};
 
+// Crate links has such steps too, of tables that need not be sound: no law holds there.
 /// A rearrangement of a map's halves: `next` and `next_back` undo each other.
 pub trait NextBackFn {
     ghost step: { Links → ℕ → ℕ };
