@@ -1,5 +1,5 @@
 //! How many records there are, and how many the tables can hold.
-ghost use Rattle.std.specs.Prelude.{◌≡◌};
+ghost use Rattle.std.specs.Prelude.{◌≡◌, ◌++◌, codes, decimal, Some};
 ghost use Rattle.links.specs.Kept.{emptied as empty_of};
 ghost use Rattle.links.specs.Tables.{size as words};
 
@@ -34,6 +34,8 @@ impl Shape {
 }
 
 impl fmt::Display for Shape {
+    ghost output = { λ s. Some (codes "n " ++ (decimal s.n ++ (codes " e " ++ (decimal s.e ++ (codes " f " ++ decimal s.f))))) };
+
     fn fmt<W: fmt::Write>(&self, f: &mut fmt::Formatter<W>) -> fmt::Result {
         write!(f, "n {} e {} f {}", self.n, self.e, self.f)
     }

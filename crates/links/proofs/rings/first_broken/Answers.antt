@@ -1,13 +1,8 @@
 use Rattle.std.proofs.Common.{ℕ, suc, ◌<◌, sym, ◌∙◌, subst, add-one}
 use Rattle.links.specs.Links.{Links, halves}
 use Rattle.links.specs.Views.{held_in}
-use Rattle.links.proofs.Cycles.{Found, started, went_on, at_end}
+use Rattle.links.proofs.Cycles.{Found, went_on, at_end}
 use Rattle.links.proofs.rings.first_broken.Goals as goal
-
-pub loop-h-init : goal.loop-h-init
-loop-h-init g c =
-    let m : Links = held_in c.args.t in
-    started m (g.R.Ring.step m) (g.R.Ring.owner m) (g.R.Ring.root m) c.args.count c.first_loose-low.result c.first_loose-low.ensures
 
 pub loop-h-preserved : goal.loop-h-preserved
 loop-h-preserved g c =

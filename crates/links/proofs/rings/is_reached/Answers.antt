@@ -1,12 +1,7 @@
-use Rattle.std.proofs.Common.{sym, ap, ◌∙◌, lt_of_lt_of_le, add-one, below_more}
+use Rattle.std.proofs.Common.{sym, ◌∙◌, lt_of_lt_of_le}
 use Rattle.links.specs.Views.{held_in}
 use Rattle.links.proofs.First.{reaches_yes, reaches_no}
 use Rattle.links.proofs.rings.is_reached.Goals as goal
-
-pub loop-preserved : goal.loop-preserved
-loop-preserved g c =
-    let was = c.loop.invariant.0 in
-    (rw add-one (ap (g.R.Ring.step (held_in c.args.t)) was ∙ sym c.step-at.ensures), below_more _ _ c.loop.invariant.1 (λ e. c.if-at-h.false (sym was ∙ e)))
 
 pub returns-then-at-h : goal.returns-then-at-h
 returns-then-at-h g c =
