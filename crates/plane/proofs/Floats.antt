@@ -110,11 +110,12 @@ of_size (fin t m e) s n h =
     let w : m * up e ≡ n * down e = sym (mul-one (m * up e)) ∙ h.1 in
     ap (λ b. signed b (m * up e)) h.0 ∙ ap (signed s) w ∙ signed_mul s n (down e)
 
-exact : (z : ℤ) → nat_abs z ≤ 2 ^ 53 → Value (of_int binary64 z) z
+-- up to 2 ^ 53 a whole number is a float
+pub exact : (z : ℤ) → nat_abs z ≤ 2 ^ 53 → Value (of_int binary64 z) z
 unfolding of_int
 exact (pos n) h = of_size (round binary64 false n 1) false n (round_whole binary64 false n h)
 exact (negsuc n) h = of_size (round binary64 true (suc n) 1) true (suc n) (round_whole binary64 true (suc n) h)
 
--- up to 2 ^ 53 a whole number is a float
+-- the same, of the number as the code has it
 pub is_exact : (z : ℤ) → nat_abs z ≤ 2 ^ 53 → Value (of_int binary64 (to_z w64 (of_z w64 z))) z
 is_exact z h = let f : SFits w64 z = omega (arith, ints) in subst⁻¹ (λ y. Value (of_int binary64 y) z) (to_z-of_z f) (exact z h)

@@ -24,6 +24,10 @@ pub D-rot : (a b c d : Vec) → D a b c d ≡ D b c a d
 unfolding D
 D-rot a b c d = ring (D4 0 1 2 3) (D4 1 2 0 3) (entries (a ∷ b ∷ c ∷ d ∷ [])) tt
 
+pub D-cyc : (a b c d : Vec) → D a b c d ≡ neg_ℤ (D b c d a)
+unfolding D
+D-cyc a b c d = ring (D4 0 1 2 3) (⊝ D4 1 2 3 0) (entries (a ∷ b ∷ c ∷ d ∷ [])) tt
+
 pub D-same : (a b c : Vec) → D a b c a ≡ pos 0
 unfolding D
 D-same a b c = ring (D4 0 1 2 0) (k (pos 0)) (entries (a ∷ b ∷ c ∷ [])) tt

@@ -30,6 +30,9 @@ pub *ℤ-one-r : (a : ℤ) → a *ℤ pos 1 ≡ a
 unfolding one
 *ℤ-one-r a = *ℤ-one a
 
+pub *ℤ-one-l : (a : ℤ) → pos 1 *ℤ a ≡ a
+*ℤ-one-l a = *ℤ_comm (pos 1) a ∙ *ℤ-one-r a
+
 pub neg_is_mul : (a : ℤ) → neg_ℤ a ≡ negsuc 0 *ℤ a
 neg_is_mul a =
     same_in (neg_ℤ a) (negsuc 0 *ℤ a) (omega (arith, (neg_is a).0, (neg_is a).1, (product_is (negsuc 0) a).0, (product_is (negsuc 0) a).1))

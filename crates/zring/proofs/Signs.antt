@@ -1,5 +1,5 @@
 -- Signs of integers: products, sums, cases and cancelling.
-use mathlib.Core.Path.{◌≡◌, refl, ◌∙◌, ap, subst}
+use mathlib.Core.Path.{◌≡◌, refl, sym, ◌∙◌, ap, subst}
 use mathlib.Core.Logic.{◌⊎◌, inl, inr}
 use Prim.Native.Nat.{ℕ, zero, suc, ◌*◌, ◌<◌}
 use native.Mathlib.Omega.{arith}
@@ -178,3 +178,13 @@ factor-> a b h p =
 pub three-≥ : (a v b w c u : ℤ) → a *ℤ v ≡ b *ℤ w +ℤ c *ℤ u → pos 0 <ℤ v → pos 0 ≤ℤ b → pos 0 ≤ℤ w → pos 0 ≤ℤ c → pos 0 ≤ℤ u → pos 0 ≤ℤ a
 three-≥ a v b w c u e hv hb hw hc hu =
     cancel-≥ v a hv (sum-≥ (v *ℤ a) (b *ℤ w) (c *ℤ u) (*ℤ_comm v a ∙ e) (mul-≥≥ b w hb hw) (mul-≥≥ c u hc hu))
+
+-- a = 0: then b = 0, where w is positive
+pub three_zero : (a v b w c u : ℤ) → a *ℤ v ≡ b *ℤ w +ℤ c *ℤ u → a ≡ pos 0 → pos 0 <ℤ w → pos 0 ≤ℤ b → pos 0 ≤ℤ c → pos 0 ≤ℤ u → b ≡ pos 0
+three_zero a v b w c u e ha hw hb hc hu =
+    let e' : pos 0 ≡ b *ℤ w +ℤ c *ℤ u = sym (ap (λ z. z *ℤ v) ha ∙ zero-*ℤ v) ∙ e in
+    let m = part (b *ℤ w) (c *ℤ u) e' (mul-≥≥ c u hc hu) in
+    both_zero b hb (cancel-≤ w b hw (subst (λ z. z ≤ℤ pos 0) (*ℤ_comm b w) m))
+  where
+    part : (s t : ℤ) → pos 0 ≡ s +ℤ t → pos 0 ≤ℤ t → s ≤ℤ pos 0
+    part s t e l = omega (arith, ints)
