@@ -25,20 +25,28 @@ pub fn is_outer_edge(map: &Map<'_>, h: u32) -> bool
 pub fn from(map: &Map<'_>, h: u32) -> Option<u32>
     ensures { result ≡ from_of (links_of map.now) h }
 {
-    has_half(map, h).then_some(map.origin(h))
+    if !has_half(map, h) {
+        return None;
+    }
+    Some(map.origin(h))
 }
 
 /// The entry that a half leads to; none where the map lacks it.
 pub fn to(map: &Map<'_>, h: u32) -> Option<u32>
     ensures { result ≡ to_of (links_of map.now) h }
 {
-    has_half(map, h).then_some(map.origin(rev(h)))
+    if !has_half(map, h) {
+        return None;
+    }
+    Some(map.origin(rev(h)))
 }
 
 /// The entry across the face of a half; none for an outer half, and where the map lacks it.
 pub fn opposite_vertex(map: &Map<'_>, h: u32) -> Option<u32>
     ensures { result ≡ opposite_of (links_of map.now) h }
 {
-    let inner = has_half(map, h) && map.face(h) != 0;
-    inner.then_some(map.origin(map.prev(h)))
+    if !has_half(map, h) || map.face(h) == 0 {
+        return None;
+    }
+    Some(map.origin(map.prev(h)))
 }
