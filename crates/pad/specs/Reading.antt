@@ -1,6 +1,7 @@
 -- Which words a line has, and what reading one answers.
 use Rattle.std.specs.Prelude.{◌≡◌, ◌≢◌, ◌⊎◌, ℕ, List, Result, Ok, Err, Option, Some, None, slice_index, MatchOption, MatchResult}
 use Rattle.std.specs.Borrow.{Bor}
+use Rattle.std.specs.Str.{IsUtf8}
 use Rattle.std.specs.Str.Iter.{split_whitespace_rest, split_whitespace_steps}
 use Rattle.std.specs.declared.str.SplitWhitespace.{SplitWhitespace}
 use Rattle.pad.specs.declared.command.Command.{Command}
@@ -51,9 +52,12 @@ module _ {T E : Type 0} (gives : List ℕ → Result T E → Type 0) where
 abbrev pub IsWordsOf : List ℕ → Words → Type 0
 IsWordsOf text words = text_left words ≡ text
 
--- a line's first word is its command
+-- a text's first word is its command, and one that is no command's word is a complaint
+abbrev pub ReadsText : List ℕ → Result (Option (Command × Words)) Complaint → Type 0
+ReadsText text r = (words : Words) × IsWordsOf text words × MatchResult r
+    (λ found. MatchOption found (IsAtEnd words) (λ x. (w : Text) × Takes words w x.1 × (w.now ≡ command_word x.0)))
+    (λ c. (w : Text) × (after : Words) × Takes words w after × (c ≡ Unknown w) × ((k : Command) → w.now ≢ command_word k))
+
+-- a line is read as a text, unless it is none
 abbrev pub ReadsLine : List ℕ → Result (Option (Command × Words)) Complaint → Type 0
-ReadsLine line r = MatchResult r
-    (λ found. (words : Words) × IsWordsOf line words
-    × MatchOption found (IsAtEnd words) (λ x. (w : Text) × Takes words w x.1 × (w.now ≡ command_word x.0)))
-    (λ c. (c ≡ NoText) ⊎ ((w : Text) × (c ≡ Unknown w) × ((k : Command) → w.now ≢ command_word k)))
+ReadsLine line r = (IsUtf8 line × ReadsText line r) ⊎ (¬ (IsUtf8 line) × (r ≡ Err NoText))

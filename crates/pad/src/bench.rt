@@ -127,9 +127,11 @@ impl<'r, E: Written> Bench<'r, E> {
 
     /// `side A B Q`: where Q lies, seen along the way from A to B.
     fn tell_side<'a>(&self, words: &mut Words<'a>) -> Result<(), Trouble<'a>> {
-        let numbers = words.numbers::<3>("entry number")?;
+        let i = words.read::<usize>("entry number")?;
+        let j = words.read::<usize>("entry number")?;
+        let k = words.read::<usize>("entry number")?;
         words.end()?;
-        let [a, b, q] = numbers.try_map(|number| self.spot(number))?;
+        let [a, b, q] = [i, j, k].try_map(|number| self.spot(number))?;
         let info = side_query(a, b, q);
         let verdict = if info.is_on_line() {
             "on the line"
@@ -138,22 +140,23 @@ impl<'r, E: Written> Bench<'r, E> {
         } else {
             "right"
         };
-        let [i, j, k] = numbers;
         println!(self.rt; "side {i} {j} {k}: {}, {verdict}", side(a, b, q))?;
         Ok(())
     }
 
     /// `circle A B C D`: whether D lies inside the circle of A, B, C.
     fn tell_circle<'a>(&self, words: &mut Words<'a>) -> Result<(), Trouble<'a>> {
-        let numbers = words.numbers::<4>("entry number")?;
+        let i = words.read::<usize>("entry number")?;
+        let j = words.read::<usize>("entry number")?;
+        let k = words.read::<usize>("entry number")?;
+        let l = words.read::<usize>("entry number")?;
         words.end()?;
-        let [a, b, c, d] = numbers.try_map(|number| self.spot(number))?;
+        let [a, b, c, d] = [i, j, k, l].try_map(|number| self.spot(number))?;
         let verdict = if contained_in_circumference(a, b, c, d) {
             "inside"
         } else {
             "not inside"
         };
-        let [i, j, k, l] = numbers;
         println!(self.rt;
             "circle {i} {j} {k} {l}: {}, {verdict}",
             incircle(a, b, c, d)

@@ -109,19 +109,6 @@ impl<'a> Words<'a> {
         read(self.word(what)?, what)
     }
 
-    /// As many numbers as are asked for.
-    pub fn numbers<const N: usize>(
-        &mut self,
-        what: &'static str,
-    ) -> Result<[usize; N], Complaint<'a>> {
-        // A loop, since it is not proved for every N that what `try_from_fn` makes fits in memory.
-        let mut numbers = [0; N];
-        for number in numbers.iter_mut() {
-            *number = self.read(what)?;
-        }
-        Ok(numbers)
-    }
-
     /// The same, with a value for where the line ends before.
     pub fn read_or<T: FromStr + Drop>(
         &mut self,
