@@ -1,7 +1,8 @@
 // The kinds of entry that a script can put on the shelf: how each is written and shown.
-ghost use Rattle.std.specs.Prelude.{◌≡◌, ◌≢◌, ◌↔◌, codes, IfOk, IsErr};
+ghost use Rattle.std.specs.Prelude.{◌≡◌, ◌≢◌, ◌↔◌, codes, IfErr, IfOk, IsErr};
 ghost use Rattle.entry.specs.Naming.{packed_name};
 ghost use Rattle.pad.specs.Entries.{IsName};
+ghost use Rattle.pad.specs.Reading.{Text};
 
 use crate::complaint::{Complaint, Misspelled};
 use crate::script::Words;
@@ -86,6 +87,7 @@ impl Written for Point2 {
 fn read_name<'a>(word: &'a str) -> Result<u64, Complaint<'a>>
     ensures named { IfOk result (λ name. IsName name word.now) }
     ensures refused { IsErr result ↔ ((word.now ≢ codes "-") × (packed_name word.now ≡ None)) }
+    ensures complaint { IfErr result (λ c. (what : Text) × (what.now ≡ codes "name of at most eight bytes") × (c ≡ Complaint.Unread what word.entry)) }
 {
     if word == "-" {
         return Ok(0);
