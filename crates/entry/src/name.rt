@@ -1,8 +1,15 @@
 //! Names of up to eight bytes, packed into one number.
 ghost use Rattle.std.specs.Prelude.{◌≡◌};
-ghost use Rattle.entry.specs.Naming.{glyph, packed_name};
+ghost use Rattle.entry.specs.Naming.{glyph, packed, packed_name};
 
 use std::fmt;
+
+/// Eight bytes as one number, the first highest.
+fn pack(bytes: [u8; 8]) -> u64
+    ensures { result ≡ packed bytes }
+{
+    u64::from_be_bytes(bytes)
+}
 
 /// A text as a name: none if it has more than eight bytes, or a 0 among them. The empty text is 0.
 pub fn pack_name(text: &[u8]) -> Option<u64>
@@ -13,7 +20,7 @@ pub fn pack_name(text: &[u8]) -> Option<u64>
     }
     let mut bytes = [0; 8];
     bytes[..text.len()].copy_from_slice(text);
-    Some(u64::from_be_bytes(bytes))
+    Some(pack(bytes))
 }
 
 /// A byte as it is shown: printable ASCII as itself, else a question mark.

@@ -32,12 +32,17 @@ pub trait Records {
 
     /// A number of an entry's record: x, y and `out_edge` are 0, 1 and 2.
     // Any field may be asked for: an enum would take fewer numbers, and so ask more of callers.
+    // Past the table it returns at once, here and below: with one `look` for both cases the place is made by a
+    // conditional move, and each read waits for it.
     final fn entry_number(&self, field: u8, v: u32) -> u32
         ensures { result ≡ of_entry (shape self.now) (number self.now) field v }
     {
         let s = self.shape();
+        if v >= s.entries {
+            return look(self.words(), None);
+        }
         let at = 3 * v as usize + field as usize;
-        look(self.words(), (v < s.entries).then_some(at))
+        look(self.words(), Some(at))
     }
 
     /// A link of a half: `next`, `prev`, `face` and `origin` are 0, 1, 2 and 3; any number may be asked for, as at an entry.
@@ -45,11 +50,11 @@ pub trait Records {
         ensures { result ≡ of_half (shape self.now) (number self.now) field h }
     {
         let s = self.shape();
+        if h as u64 >= 2 * s.edges as u64 {
+            return look(self.words(), None);
+        }
         let at = 3 * s.entries as usize + 4 * h as usize + field as usize;
-        look(
-            self.words(),
-            ((h as u64) < 2 * s.edges as u64).then_some(at),
-        )
+        look(self.words(), Some(at))
     }
 
     /// The link of a face: its `adjacent_edge`.
@@ -58,8 +63,11 @@ pub trait Records {
         ensures link { result ≡ (links self.now).adj k }
     {
         let s = self.shape();
+        if k >= s.faces {
+            return look(self.words(), None);
+        }
         let at = 3 * s.entries as usize + 8 * s.edges as usize + k as usize;
-        look(self.words(), (k < s.faces).then_some(at))
+        look(self.words(), Some(at))
     }
 
     /// The x of entry v.
